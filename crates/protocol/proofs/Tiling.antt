@@ -16,7 +16,7 @@ use Rattle.protocol.specs.declared.field.Field.{Field}
 use Rattle.protocol.specs.declared.field.Field.the-variants.{Commitment, Seeds, Offsets}
 use Rattle.protocol.specs.Bytes.{part}
 use Rattle.protocol.specs.Parameters.{Parameters, width, sigma}
-use Rattle.protocol.specs.Layout.{size, offset, block-bytes, blocks-at, record-bytes, block-fields, leading-fields, fields, field-part, Fields-tile}
+use Rattle.protocol.specs.Layout.{size, offset, block-length, blocks-at, record-length, block-fields, leading-fields, fields, field-part, Fields-tile}
 
 -- the fields of a list lie end to end, from one offset to another
 abbrev pub Between : Parameters → ℕ → List Field → ℕ → Type 0
@@ -39,11 +39,11 @@ pub both : (p : Parameters) (at : ℕ) (fs : List Field) (mid : ℕ) (gs : List 
 both p at [] mid gs end e after = subst (λ k. Between p k gs end) (sym e) after
 both p at (f ∷ fs) mid gs end (here, rest) after = (here, both p (at + size p f) fs mid gs end rest after)
 
-blocks : (p : Parameters) (k : ℕ) → Between p (blocks-at p) (block-fields k) (blocks-at p + k * block-bytes p)
+blocks : (p : Parameters) (k : ℕ) → Between p (blocks-at p) (block-fields k) (blocks-at p + k * block-length p)
 blocks p zero = omega arith
 blocks p (suc k) =
-    both p (blocks-at p) (block-fields k) (blocks-at p + k * block-bytes p) _ _ (blocks p k)
-    (refl, (refl, (refl, omega (arith, suc-mul k (block-bytes p)))))
+    both p (blocks-at p) (block-fields k) (blocks-at p + k * block-length p) _ _ (blocks p k)
+    (refl, (refl, (refl, omega (arith, suc-mul k (block-length p)))))
 
 leading : (p : Parameters) → Between p 0 leading-fields (blocks-at p)
 leading p = (refl, (refl, (refl, (refl, (refl, (refl, (refl, (refl, (refl, (refl, (refl, (refl, (refl, (refl, (refl, (refl, refl))))))))))))))))
@@ -53,10 +53,10 @@ pub block-count : (k : ℕ) → length (block-fields k) ≡ 3 * k
 block-count zero = refl
 block-count (suc k) = length-append (block-fields k) _ ∙ omega (arith, block-count k)
 
-whole-record : (p : Parameters) (bytes : List ℕ) → length bytes ≡ record-bytes p → joined (field-part p bytes) (fields p) ≡ bytes
+whole-record : (p : Parameters) (bytes : List ℕ) → length bytes ≡ record-length p → joined (field-part p bytes) (fields p) ≡ bytes
 whole-record p bytes long =
-    let whole = tiled p bytes 0 (fields p) (record-bytes p) (both p 0 leading-fields (blocks-at p) (block-fields (p .tau)) (record-bytes p) (leading p) (blocks p (p .tau))) in
-    let none : drop (record-bytes p) bytes ≡ [] = drop-all (record-bytes p) bytes (omega arith) in
+    let whole = tiled p bytes 0 (fields p) (record-length p) (both p 0 leading-fields (blocks-at p) (block-fields (p .tau)) (record-length p) (leading p) (blocks p (p .tau))) in
+    let none : drop (record-length p) bytes ≡ [] = drop-all (record-length p) bytes (omega arith) in
     sym (append-nil _) ∙ (ap (λ t. joined (field-part p bytes) (fields p) ++ t) (sym none) ∙ whole)
 
 pub fields-tile : Fields-tile

@@ -11,7 +11,7 @@ use Rattle.protocol.specs.declared.field.Field.{Field}
 use Rattle.protocol.specs.declared.field.Field.the-variants as field
 use Rattle.protocol.specs.Bytes.{word, le16}
 use Rattle.protocol.specs.Parameters.{Parameters, sigma}
-use Rattle.protocol.specs.Layout.{offset, record-bytes}
+use Rattle.protocol.specs.Layout.{offset, record-length}
 use Rattle.protocol.specs.Tests.{Test, firstOf, after}
 
 -- the numbers that stand in a header's fifteen bytes, or in those that a record begins with
@@ -69,10 +69,13 @@ bare-tests bytes = let p = parameters-of bytes in mark-test bytes ∷ version-te
 abbrev pub checks-header : List ℕ → Result Parameters Fault
 checks-header bytes = firstOf (bare-tests bytes) (parameters-of bytes)
 
--- the header at the front of any bytes
+-- the tests of the header at the front of any bytes
+abbrev pub header-tests : List ℕ → List Test
+header-tests bytes = short-test bytes ∷ bare-tests bytes
+
 abbrev pub reads-header : List ℕ → Result Parameters Fault
-reads-header bytes = firstOf (short-test bytes ∷ bare-tests bytes) (parameters-of bytes)
+reads-header bytes = firstOf (header-tests bytes) (parameters-of bytes)
 
 -- the header of a record, which has the length that its header tells
 abbrev pub reads-record : List ℕ → Result Parameters Fault
-reads-record bytes = after (reads-header bytes) (λ p. firstOf (length-test (length bytes) (record-bytes p) ∷ []) p)
+reads-record bytes = after (reads-header bytes) (λ p. firstOf (length-test (length bytes) (record-length p) ∷ []) p)

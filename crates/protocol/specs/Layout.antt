@@ -11,7 +11,7 @@ use Rattle.std.specs.shelf.Lists.{joined}
 use Rattle.protocol.specs.declared.field.Field.{Field}
 use Rattle.protocol.specs.declared.field.Field.the-variants.{Mark, Version, Set, Rows, Columns, Values, Depth, Repetitions, AttributeBytes, SeedA, Salt, FirstDigest, SecondDigest, Attributes, Key, Audited, Commitment, Seeds, Offsets}
 use Rattle.protocol.specs.Bytes.{part}
-use Rattle.protocol.specs.Parameters.{Parameters, width, sigma, flag-bytes}
+use Rattle.protocol.specs.Parameters.{Parameters, width, sigma, flag-length}
 
 -- how many bytes a field has
 abbrev pub size : Parameters → Field → ℕ
@@ -38,8 +38,8 @@ size p (Seeds e) = 32 * p .h
 size p (Offsets e) = 2 * p .m
 
 -- the bytes of one repetition
-abbrev pub block-bytes : Parameters → ℕ
-block-bytes p = width p + 32 * p .h + 2 * p .m
+abbrev pub block-length : Parameters → ℕ
+block-length p = width p + 32 * p .h + 2 * p .m
 
 -- where the repetitions begin
 abbrev pub blocks-at : Parameters → ℕ
@@ -63,17 +63,17 @@ offset p SecondDigest = 31 + 2 * width p
 offset p Attributes = 31 + 3 * width p
 offset p Key = 31 + 3 * width p + p .a
 offset p Audited = 31 + 3 * width p + p .a + 2 * (p .n * p .c)
-offset p (Commitment e) = blocks-at p + e * block-bytes p
-offset p (Seeds e) = blocks-at p + e * block-bytes p + width p
-offset p (Offsets e) = blocks-at p + e * block-bytes p + width p + 32 * p .h
+offset p (Commitment e) = blocks-at p + e * block-length p
+offset p (Seeds e) = blocks-at p + e * block-length p + width p
+offset p (Offsets e) = blocks-at p + e * block-length p + width p + 32 * p .h
 
 -- the length that a record has
-abbrev pub record-bytes : Parameters → ℕ
-record-bytes p = blocks-at p + p .tau * block-bytes p
+abbrev pub record-length : Parameters → ℕ
+record-length p = blocks-at p + p .tau * block-length p
 
 -- the bytes of a book's entry: the record's length, the record, the hidden parties, the flags
-abbrev pub entry-bytes : Parameters → ℕ
-entry-bytes p = 4 + (record-bytes p + (p .tau + flag-bytes p))
+abbrev pub entry-length : Parameters → ℕ
+entry-length p = 4 + (record-length p + (p .tau + flag-length p))
 
 -- the fields of the first so many repetitions
 abbrev pub block-fields : ℕ → List Field
@@ -101,7 +101,7 @@ abbrev pub Fields-tile : Type 0
 Fields-tile =
     (p : Parameters) →
     (length (fields p) ≡ field-count p)
-    × ((bytes : List ℕ) → length bytes ≡ record-bytes p → joined (field-part p bytes) (fields p) ≡ bytes)
+    × ((bytes : List ℕ) → length bytes ≡ record-length p → joined (field-part p bytes) (fields p) ≡ bytes)
 
 -- a field's name, without its repetition
 abbrev pub base-name : Field → List ℕ

@@ -38,8 +38,8 @@ abbrev pub work-words : Parameters → ℕ
 work-words p = 6 * p .m + 4 * (p .n * p .c) + 64 * parties p
 
 -- the bytes that hold M flags
-abbrev pub flag-bytes : Parameters → ℕ
-flag-bytes p = (p .m + 7) / 8
+abbrev pub flag-length : Parameters → ℕ
+flag-length p = (p .m + 7) / 8
 
 -- the modulus q of a set
 abbrev pub modulus : ℕ → ℕ

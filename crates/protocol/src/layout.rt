@@ -2,8 +2,8 @@
 ghost use mathlib.Core.Path.{_≡_};
 ghost use Prim.Native.Nat.{_*_};
 ghost use Rattle.std.specs.shelf.Maps.{nth};
-ghost use Rattle.protocol.specs.Parameters.{sigma, parties, work-words, flag-bytes, width};
-ghost use Rattle.protocol.specs.Layout.{size, offset, block-bytes, blocks-at, record-bytes, entry-bytes, fields, block-fields, field-count, number-in, Fields-tile};
+ghost use Rattle.protocol.specs.Parameters.{sigma, parties, work-words, flag-length, width};
+ghost use Rattle.protocol.specs.Layout.{size, offset, block-length, blocks-at, record-length, entry-length, fields, block-fields, field-count, number-in, Fields-tile};
 ghost use Rattle.protocol.specs.Of.{parameters};
 use crate::field::Field;
 use crate::header::Header;
@@ -68,14 +68,14 @@ impl Header {
     }
 
     /// The bytes that hold a flag for each value.
-    pub fn flag_bytes(self) -> usize
-        ensures { λ r. ⌜ r ≡ flag-bytes (parameters self) ⌝ }
+    pub fn flag_length(self) -> usize
+        ensures { λ r. ⌜ r ≡ flag-length (parameters self) ⌝ }
     {
         (self.m as usize + 7) / 8
     }
 
-    fn block_bytes(self) -> usize
-        ensures { λ r. ⌜ r ≡ block-bytes (parameters self) ⌝ }
+    fn block_length(self) -> usize
+        ensures { λ r. ⌜ r ≡ block-length (parameters self) ⌝ }
     {
         self.width() + 32 * self.h as usize + 2 * self.m as usize
     }
@@ -93,21 +93,21 @@ impl Header {
     fn block_at(self, e: u8) -> usize
         ensures { λ r. ⌜ r ≡ offset (parameters self) (Field.Commitment e) ⌝ }
     {
-        self.blocks_at() + e as usize * self.block_bytes()
+        self.blocks_at() + e as usize * self.block_length()
     }
 
     /// The length of a record.
-    pub fn record_bytes(self) -> usize
-        ensures { λ r. ⌜ r ≡ record-bytes (parameters self) ⌝ }
+    pub fn record_length(self) -> usize
+        ensures { λ r. ⌜ r ≡ record-length (parameters self) ⌝ }
     {
         self.block_at(self.tau)
     }
 
     /// The length of a book's entry.
-    pub fn entry_bytes(self) -> usize
-        ensures { λ r. ⌜ r ≡ entry-bytes (parameters self) ⌝ }
+    pub fn entry_length(self) -> usize
+        ensures { λ r. ⌜ r ≡ entry-length (parameters self) ⌝ }
     {
-        4 + (self.record_bytes() + (self.tau as usize + self.flag_bytes()))
+        4 + (self.record_length() + (self.tau as usize + self.flag_length()))
     }
 
     /// How many bytes a field has.

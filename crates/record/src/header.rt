@@ -8,7 +8,7 @@ ghost use lib.ListN.{length, take, getD};
 ghost use Rattle.std.specs.Vec.{made};
 ghost use Rattle.protocol.specs.Bytes.{word};
 ghost use Rattle.protocol.specs.Tests.{firstOf};
-ghost use Rattle.protocol.specs.Layout.{record-bytes};
+ghost use Rattle.protocol.specs.Layout.{record-length};
 ghost use Rattle.protocol.specs.Header.{parameters-of, header-bytes, mark-test, version-test, checks-header, reads-header, reads-record};
 ghost use Rattle.protocol.specs.Of.{parameters, read-as};
 use protocol::fault::Fault;
@@ -103,10 +103,10 @@ pub fn read_header(bytes: &[u8]) -> Result<Header, Fault>
 /// The header of a record: fewer than fifteen bytes, mark, version, limits, and then the record's length.
 pub fn read_record(bytes: &[u8]) -> Result<Header, Fault>
     ensures says { λ r. ⌜ read-as r ≡ reads-record (now (bytes .entry)) ⌝ }
-    ensures long { λ r. ⌜ made r (λ x. length (now (bytes .entry)) ≡ record-bytes (parameters x)) ⌝ }
+    ensures long { λ r. ⌜ made r (λ x. length (now (bytes .entry)) ≡ record-length (parameters x)) ⌝ }
 {
     let header = read_header(bytes)?;
-    let due = header.record_bytes();
+    let due = header.record_length();
     if bytes.len() != due {
         return Err(Fault::Length { due });
     }

@@ -391,8 +391,8 @@ mod tests {
             return Err(Fail::new("refused"));
         };
         check_eq((x.kept(), x.parties()), (2, 2))?;
-        check_eq((x.record_bytes(), x.work_words()), (203, 156))?;
-        check_eq((x.entry_bytes(), x.flag_bytes()), (209, 1))?;
+        check_eq((x.record_length(), x.work_words()), (203, 156))?;
+        check_eq((x.entry_length(), x.flag_length()), (209, 1))?;
         check_eq(x.field_count(), 19)
     }
 

@@ -1,0 +1,14 @@
+pub mod Offsets
+pub mod Passing
+pub mod Choosing
+pub mod Counting
+pub mod Heads
+pub mod Books
+pub mod Keeping
+pub mod Reading
+pub mod Lengths
+pub mod Extracting
+pub mod Sampling
+pub mod Likeness
+pub mod Opening
+pub mod Completing

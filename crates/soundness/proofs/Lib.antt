@@ -1,0 +1,12 @@
+pub mod Sums
+pub mod Parts
+pub mod Linearity
+pub mod Residues
+pub mod Indices
+pub mod Fields
+pub mod Recovery
+pub mod Honest
+pub mod Trees
+pub mod Scheme
+pub mod Fitting
+pub mod Positions
