@@ -1,0 +1,3 @@
+pub mod Toy
+pub mod Values
+pub mod Instance
