@@ -32,11 +32,11 @@ use Rattle.protocol.specs.Runs.{Run, Commits, Keys, History, lodged, committed,
 use Rattle.protocol.specs.Scheme.{setting, transcript-of}
 use Rattle.protocol.specs.Selection.{selected, hidden-parties}
 use Rattle.protocol.specs.Sharing.{Setting, Transcript, text6, text7}
-use Rattle.protocol.specs.Streams.{Digest, First, Second, Gives-bytes, drawn}
+use Rattle.protocol.specs.Streams.{Digest, First, Second, Gives-bytes, first-bytes, drawn}
 use Rattle.protocol.specs.Tests.{Test, firstOf, after}
 
 drawn-long : (F : Digest) (text : List ℕ) (n : ℕ) → length (drawn F text n) ≡ n
-unfolding drawn
+unfolding first-bytes
 drawn-long F text n = length-map-counting (F text) 0 n
 
 record Sworn (c : Committed) : Type 0 where

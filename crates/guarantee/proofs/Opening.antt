@@ -42,7 +42,7 @@ use Rattle.protocol.specs.Sampling.{sampled, byte-of, Within, beyond, signed}
 use Rattle.protocol.specs.Scheme.{setting, words, seeds-of, transcript-of}
 use Rattle.protocol.specs.Selection.{selected, hidden-parties}
 use Rattle.protocol.specs.Sharing.{Setting, Transcript, Fits, parts, text6, text7}
-use Rattle.protocol.specs.Streams.{Digest, First, Second, Gives-bytes, drawn}
+use Rattle.protocol.specs.Streams.{Digest, First, Second, Gives-bytes, first-bytes, drawn}
 use Rattle.protocol.specs.Tests.{Test}
 use Rattle.protocol.specs.Texts.{leaf-text, text3}
 use Rattle.protocol.specs.Tree.{seed-at, siblings, regrown, beside, above, child}
@@ -172,7 +172,7 @@ module _ (F X : Digest) (bytes : Gives-bytes F) (G1 : First) (G2 : Second) (k : 
   listed e = siblings (child F (k .salt) e) (top e) (x .h) (hidden e)
 
   length-child : (e node side : ℕ) (seed : List ℕ) → side < 2 → length (child F (k .salt) e node side seed) ≡ 32
-  unfolding drawn
+  unfolding first-bytes
   length-child e node side seed h = length-part _ (32 * side) 32 (omega (arith, length-map-counting (F (text3 (k .salt) e node seed)) 0 64))
 
   length-sibling : (e t : ℕ) → t < x .h → length (getD (listed e) t []) ≡ 32
@@ -192,7 +192,7 @@ module _ (F X : Digest) (bytes : Gives-bytes F) (G1 : First) (G2 : Second) (k : 
   offset-bytes e = joined (modular q .code) (offsets s p e)
 
   commitment-long : (e : ℕ) → length (commitment-bytes e) ≡ 32
-  unfolding drawn
+  unfolding first-bytes
   commitment-long e = length-map-counting (F (leaf-text 4 (k .salt) e (hidden e) (p .seed e (hidden e)))) 0 32
 
   sibling-long : (e : ℕ) → length (sibling-bytes e) ≡ 32 * x .h

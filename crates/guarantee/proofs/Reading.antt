@@ -34,7 +34,7 @@ use Rattle.protocol.specs.Texts.{text3}
 use Rattle.protocol.specs.Sampling.{Within, beyond, signed}
 use Rattle.protocol.specs.Scheme.{words, seeds-of, transcript-of}
 use Rattle.protocol.specs.Sharing.{Setting, Transcript, Fits, value-at}
-use Rattle.protocol.specs.Streams.{Digest, drawn}
+use Rattle.protocol.specs.Streams.{Digest, first-bytes, drawn}
 use Rattle.protocol.specs.Tree.{child, regrown, above}
 use Rattle.guarantee.proofs.Offsets.{audited-at, block-at, key-at, offsets-at}
 
@@ -156,7 +156,7 @@ module _ (F X : Digest) (a : Entry) (c : Well-formed a) where
 
   -- every seed that is regrown has 32 bytes
   length-child : (salt : List ℕ) (e node side : ℕ) (seed : List ℕ) → side < 2 → length (child F salt e node side seed) ≡ 32
-  unfolding drawn
+  unfolding first-bytes
   length-child salt e node side seed h = length-part _ (32 * side) 32 (omega (arith, length-map-counting (F (text3 salt e node seed)) 0 64))
 
   length-given : (e t : ℕ) → e < x .tau → t < x .h → length (getD (seeds-of (part r (block-at x e + 32) (32 * x .h)) (x .h)) t []) ≡ 32

@@ -3,7 +3,7 @@ use Prim.Native.Nat.{ℕ, _+_, _*_, _/_, _%_}
 use mathlib.Core.Path.{_≡_, refl, subst}
 use native.Mathlib.Omega.{arith}
 use Rattle.std.proofs.shelf.Bits.{mod-below}
-use Rattle.protocol.specs.Streams.{Gives-bytes, drawn}
+use Rattle.protocol.specs.Streams.{Gives-bytes, first-bytes, drawn}
 use Rattle.protocol.specs.Flags.{packed, unpacked}
 use Rattle.protocol.specs.Selection.{selected, hidden-parties}
 use Rattle.protocol.specs.Sharing.{text6, text7}
@@ -19,7 +19,7 @@ use Rattle.instance.specs.Values.{the-header, the-salt, the-master, the-attrib
 use Rattle.instance.specs.Instance.{Calls, Collisions, Witness, Spoiled-refused, Refusals, work, keyed, start}
 
 pub calls : Calls
-unfolding mix drawn honest6 honest7 text6 text7 joint-seeds value-of transcript-of selected hidden-parties packed unpacked key-bytes record-bytes body-tests recovered-bytes
+unfolding mix first-bytes honest6 honest7 text6 text7 joint-seeds value-of transcript-of selected hidden-parties packed unpacked key-bytes record-bytes body-tests recovered-bytes
 calls = record {
   commit = refl;
   key = refl;
@@ -37,7 +37,7 @@ calls = record {
 }
 
 pub collisions : Collisions
-unfolding mix drawn honest6 honest7 text6 text7 joint-seeds value-of transcript-of selected hidden-parties packed unpacked key-bytes record-bytes body-tests recovered-bytes
+unfolding mix first-bytes honest6 honest7 text6 text7 joint-seeds value-of transcript-of selected hidden-parties packed unpacked key-bytes record-bytes body-tests recovered-bytes
 collisions = record {
   lodge6 = refl;
   recover6 = refl;
@@ -46,7 +46,7 @@ collisions = record {
 }
 
 pub refusals : Refusals
-unfolding mix drawn honest6 honest7 text6 text7 joint-seeds value-of transcript-of selected hidden-parties packed unpacked key-bytes record-bytes body-tests recovered-bytes
+unfolding mix first-bytes honest6 honest7 text6 text7 joint-seeds value-of transcript-of selected hidden-parties packed unpacked key-bytes record-bytes body-tests recovered-bytes
 refusals = record {
   lodge-short = refl;
   lodge-length = refl;
@@ -77,7 +77,7 @@ refusals = record {
 }
 
 pub spoiled-refused : Spoiled-refused
-unfolding mix drawn honest6 honest7 text6 text7 joint-seeds value-of transcript-of selected hidden-parties packed unpacked key-bytes record-bytes body-tests recovered-bytes
+unfolding mix first-bytes honest6 honest7 text6 text7 joint-seeds value-of transcript-of selected hidden-parties packed unpacked key-bytes record-bytes body-tests recovered-bytes
 spoiled-refused = (refl, (refl, (refl, (refl, (refl, (refl, (refl, (refl, (refl, (refl, (refl, (refl, (refl, (refl, (refl, (refl, (refl, (refl, (refl, (refl, (refl, (refl, (refl, (refl, (refl, (refl, (refl, (refl, (refl, (refl, (refl, (refl, (refl, (refl, (refl, (refl, (refl, (refl, (refl, tt)))))))))))))))))))))))))))))))))))))))
 
 mix-bytes : Gives-bytes mix

@@ -10,9 +10,13 @@ Digest = List ℕ → ℕ → ℕ
 abbrev pub Gives-bytes : Digest → Type 0
 Gives-bytes F = (text : List ℕ) (i : ℕ) → F text i < 256
 
--- the first n bytes that are drawn on a text
-unfoldable pub drawn : Digest → List ℕ → ℕ → List ℕ
-drawn F text n = map (F text) (counting 0 n)
+-- the first n bytes of a stream
+unfoldable pub first-bytes : (ℕ → ℕ) → ℕ → List ℕ
+first-bytes s n = map s (counting 0 n)
+
+-- n bytes, drawn on a text
+abbrev pub drawn : Digest → List ℕ → ℕ → List ℕ
+drawn F text n = first-bytes (F text) n
 
 -- a challenger's answers: G1 of salt and d1, G2 of salt, d1 and d2, each a stream
 abbrev pub First : Type 0

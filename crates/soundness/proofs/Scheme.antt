@@ -21,7 +21,7 @@ use Rattle.protocol.specs.Residues.{residue, dot, matrix, matrix-rule}
 use Rattle.protocol.specs.Rule.{Rule, Lawful-rule}
 use Rattle.protocol.specs.Scheme.{setting}
 use Rattle.protocol.specs.Sharing.{Setting, Transcript, Fits, value-at, commitment, text6, text7}
-use Rattle.protocol.specs.Streams.{Digest, drawn}
+use Rattle.protocol.specs.Streams.{Digest, first-bytes, drawn}
 use Rattle.protocol.specs.Texts.{leaf-text}
 
 pub modulus-some : (set : ℕ) → 0 < modulus set
@@ -44,7 +44,7 @@ module _ (F X : Digest) (p : Parameters) (header : List ℕ) where
   s = setting F X p header
 
   pub setting-drawn : Drawn s
-  unfolding drawn
+  unfolding first-bytes
   setting-drawn = record {
     commit-length = λ salt e j seed. length-map-counting (F (leaf-text 4 salt e j seed)) 0 (width p);
     share-least = λ salt e j seed k. mod-mod _ (modulus (p .set));

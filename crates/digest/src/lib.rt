@@ -1,0 +1,3 @@
+//! What a digest maker is, and digests of texts by any maker.
+
+pub mod maker;
