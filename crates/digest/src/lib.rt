@@ -1,3 +1,4 @@
 //! What a digest maker is, and digests of texts by any maker.
 
 pub mod maker;
+pub mod parts;
