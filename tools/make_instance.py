@@ -138,15 +138,31 @@ def main():
             rows.append(f"spoiled {at} {value} {number} {place} {layer.capitalize()}")
     out.append("abbrev pub spoiled-records : List Spoiled\nspoiled-records =\n    " + "\n    ∷ ".join(rows) + "\n    ∷ []\n")
 
+    out.append("-- with two bytes changed, each of which alone is refused: the first test in the order decides")
+    pairs = []
+    doubles = [(0, 74, 3, 2), (3, 2, 5, 4), (5, 4, 7, 6), (7, 6, 8, 9), (8, 9, 10, 128), (10, 128, 11, 9), (11, 9, 12, 65), (12, 65, 14, 5), (14, 5, 131, 128),
+               (131, 128, 138, 13), (138, 13, 238, 128), (238, 128, 356, 200), (31, 99, 95, 0), (238, 128, 31, 99)]
+    for at, value, then, other in doubles:
+        r = bytearray(one)
+        r[at], r[then] = value, other
+        try:
+            lodge(mix, mix, first, second(0), bytes(r), WORK, ENTRY)
+            raise AssertionError(at)
+        except Refused as refused:
+            number, place, layer = refused.args
+            pairs.append(f"twice {at} {value} {then} {other} {number} {place} {layer.capitalize()}")
+    out.append("abbrev pub twice-spoiled : List Spoiled\ntwice-spoiled =\n    " + "\n    ∷ ".join(pairs) + "\n    ∷ []\n")
+
     head = """-- Values of one ceremony under a toy digest function, written by tools/make_instance.py.
 use Prim.Native.Nat.{ℕ}
 use mathlib.Core.List.{List, [], _∷_}
 use Rattle.protocol.specs.declared.fault.Layer.{Layer}
 use Rattle.protocol.specs.declared.fault.Layer.the-variants.{Header, Body, Digest}
 
--- which byte, its new value, and the refusal's number, place and layer
+-- which byte, its new value, and the refusal's number, place and layer; or two bytes and values
 pub data Spoiled : Type 0 where
   spoiled : ℕ → ℕ → ℕ → ℕ → Layer → Spoiled
+  twice : ℕ → ℕ → ℕ → ℕ → ℕ → ℕ → Layer → Spoiled
 
 """
     path = os.path.join(os.path.dirname(os.path.abspath(__file__)), "..", "crates", "instance", "specs", "Values.antt")

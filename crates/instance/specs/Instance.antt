@@ -18,7 +18,7 @@ use Rattle.protocol.specs.Ceremony.{Committed, Keyed, commits, keys, key-bytes,
 use Rattle.protocol.specs.Book.{State, empty, appended, entries-of, no-entry, read-bytes, lodges, reads, Recovered, recovers, common-part}
 use Rattle.protocol.specs.Runs.{Run, History}
 use Rattle.instance.specs.Toy.{mix, first, second}
-use Rattle.instance.specs.Values.{Spoiled, spoiled, the-header, the-salt, the-master, the-attributes, the-seedA, the-d1, the-d2, the-key, first-record, second-record, the-memory, the-recovered, other-attributes, other-text6-record, text6-differs-at, other-seedA, other-text7-record, text7-differs-at, spoiled-records}
+use Rattle.instance.specs.Values.{Spoiled, spoiled, twice, the-header, the-salt, the-master, the-attributes, the-seedA, the-d1, the-d2, the-key, first-record, second-record, the-memory, the-recovered, other-attributes, other-text6-record, text6-differs-at, other-seedA, other-text7-record, text7-differs-at, spoiled-records, twice-spoiled}
 
 -- W of the header, the bytes of an entry, and more output than any call needs
 abbrev pub work : ℕ
@@ -92,12 +92,17 @@ abbrev pub told : {X : Type 0} → Result X Fault → Answer
 told (Ok x) = accepted
 told (Err f) = refused (number f) (place f) (layer f)
 
--- the first record with one byte changed
+-- what lodge says of a record
+abbrev pub judged : List ℕ → Answer
+judged r = told (lodges mix mix first (second 0) (empty (replicate entry-size 0)) r work)
+
+-- the first record with one byte changed, or two
 abbrev pub Refuses : Spoiled → Type 0
-Refuses (spoiled at value n p l) = told (lodges mix mix first (second 0) (empty (replicate entry-size 0)) (set first-record at value) work) ≡ refused n p l
+Refuses (spoiled at value n p l) = judged (set first-record at value) ≡ refused n p l
+Refuses (twice at value at′ value′ n p l) = judged (set (set first-record at value) at′ value′) ≡ refused n p l
 
 abbrev pub Spoiled-refused : Type 0
-Spoiled-refused = All Refuses spoiled-records
+Spoiled-refused = All Refuses spoiled-records × All Refuses twice-spoiled
 
 -- the other refusals of every call, in their order
 pub record Refusals : Type 0 where

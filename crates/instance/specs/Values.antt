@@ -4,9 +4,10 @@ use mathlib.Core.List.{List, [], _∷_}
 use Rattle.protocol.specs.declared.fault.Layer.{Layer}
 use Rattle.protocol.specs.declared.fault.Layer.the-variants.{Header, Body, Digest}
 
--- which byte, its new value, and the refusal's number, place and layer
+-- which byte, its new value, and the refusal's number, place and layer; or two bytes and values
 pub data Spoiled : Type 0 where
   spoiled : ℕ → ℕ → ℕ → ℕ → Layer → Spoiled
+  twice : ℕ → ℕ → ℕ → ℕ → ℕ → ℕ → Layer → Spoiled
 
 abbrev pub the-header : List ℕ
 the-header = 75 ∷ 80 ∷ 80 ∷ 1 ∷ 0 ∷ 1 ∷ 2 ∷ 0 ∷ 2 ∷ 11 ∷ 0 ∷ 2 ∷ 2 ∷ 3 ∷ 0 ∷ []
@@ -109,4 +110,23 @@ spoiled-records =
     ∷ spoiled 259 9 8 0 Digest
     ∷ spoiled 355 1 8 0 Digest
     ∷ spoiled 376 200 6 375 Body
+    ∷ []
+
+-- with two bytes changed, each of which alone is refused: the first test in the order decides
+abbrev pub twice-spoiled : List Spoiled
+twice-spoiled =
+    twice 0 74 3 2 2 0 Header
+    ∷ twice 3 2 5 4 3 3 Header
+    ∷ twice 5 4 7 6 4 5 Header
+    ∷ twice 7 6 8 9 4 6 Header
+    ∷ twice 8 9 10 128 4 8 Header
+    ∷ twice 10 128 11 9 4 9 Header
+    ∷ twice 11 9 12 65 4 11 Header
+    ∷ twice 12 65 14 5 4 12 Header
+    ∷ twice 14 5 131 128 4 13 Header
+    ∷ twice 131 128 138 13 6 130 Body
+    ∷ twice 138 13 238 128 7 138 Body
+    ∷ twice 238 128 356 200 6 237 Body
+    ∷ twice 31 99 95 0 8 0 Digest
+    ∷ twice 238 128 31 99 6 237 Body
     ∷ []
