@@ -122,6 +122,23 @@ def main():
     put("other-text7-record", r7)
     out.append(f"abbrev pub text7-differs-at : ℕ\ntext7-differs-at = {answer7[1]}\n")
 
+    q, _ = prover(other, seed)
+    assert (q.d1, q.d2) == (p.d1, p.d2)
+    both = q.open(second(1))
+    answer = recover([book[0], lodge(mix, mix, first, second(1), both, WORK, ENTRY)], 0, 1, 0, 2 * WORK, 1 << 20)
+    assert answer[0] == 6 and answer[1] == answer6[1]
+    put("both-differ-record", both, "other attributes and another seedA")
+
+    q, _ = prover(ATTRIBUTES, bytes(16))
+    assert q.d1 == p.d1 and q.d2 != p.d2
+    apart = q.open(second(1))
+    try:
+        recover([book[0], lodge(mix, mix, first, second(1), apart, WORK, ENTRY)], 0, 1, 0, 0, 0)
+        raise AssertionError
+    except Refused as refused:
+        assert refused.args == (17, 0, "book")
+    put("other-d2-record", apart, "a third seedA, under another d2")
+
     out.append("-- the first record with one byte changed, and the refusal that is due")
     rows = []
     edits = [(0, 74), (3, 2), (4, 1), (5, 0), (5, 2), (5, 4), (6, 0), (7, 6), (8, 0), (8, 9), (9, 8), (10, 128), (11, 0), (11, 9), (12, 0), (12, 65),

@@ -43,6 +43,8 @@ collisions = record {
   recover6 = refl;
   lodge7 = refl;
   recover7 = refl;
+  lodge-both = refl;
+  recover-both = refl;
 }
 
 pub refusals : Refusals
@@ -70,6 +72,8 @@ refusals = record {
   read-room = refl;
   recover-missing = refl;
   recover-second-missing = refl;
+  lodge-other-d2 = refl;
+  recover-unequal = refl;
   recover-itself = refl;
   recover-repetition = refl;
   recover-work = refl;

@@ -18,7 +18,7 @@ use Rattle.protocol.specs.Ceremony.{Committed, Keyed, commits, keys, key-bytes,
 use Rattle.protocol.specs.Book.{State, empty, appended, entries-of, no-entry, read-bytes, lodges, reads, Recovered, recovers, common-part}
 use Rattle.protocol.specs.Runs.{Run, History}
 use Rattle.instance.specs.Toy.{mix, first, second}
-use Rattle.instance.specs.Values.{Spoiled, spoiled, twice, the-header, the-salt, the-master, the-attributes, the-seedA, the-d1, the-d2, the-key, first-record, second-record, the-memory, the-recovered, other-attributes, other-text6-record, text6-differs-at, other-seedA, other-text7-record, text7-differs-at, spoiled-records, twice-spoiled}
+use Rattle.instance.specs.Values.{Spoiled, spoiled, twice, the-header, the-salt, the-master, the-attributes, the-seedA, the-d1, the-d2, the-key, first-record, second-record, the-memory, the-recovered, other-attributes, other-text6-record, text6-differs-at, other-seedA, other-text7-record, text7-differs-at, both-differ-record, other-d2-record, spoiled-records, twice-spoiled}
 
 -- W of the header, the bytes of an entry, and more output than any call needs
 abbrev pub work : ℕ
@@ -69,11 +69,17 @@ with-other6 = appended middle (chosen first (second 1) other-text6-record)
 abbrev pub with-other7 : State
 with-other7 = appended middle (chosen first (second 1) other-text7-record)
 
+abbrev pub with-both : State
+with-both = appended middle (chosen first (second 1) both-differ-record)
+
 pub record Collisions : Type 0 where
   pub lodge6 : lodges mix mix first (second 1) middle other-text6-record work ≡ Ok 1
   pub recover6 : recovers mix mix with-other6 0 1 0 (2 * work) room ≡ Ok (record { label = 6; position = text6-differs-at; bytes = [] })
   pub lodge7 : lodges mix mix first (second 1) middle other-text7-record work ≡ Ok 1
   pub recover7 : recovers mix mix with-other7 0 1 0 (2 * work) room ≡ Ok (record { label = 7; position = text7-differs-at; bytes = [] })
+  -- where both texts differ, text 6 is the one that is told
+  pub lodge-both : lodges mix mix first (second 1) middle both-differ-record work ≡ Ok 1
+  pub recover-both : recovers mix mix with-both 0 1 0 (2 * work) room ≡ Ok (record { label = 6; position = text6-differs-at; bytes = [] })
 
 -- what the guarantee speaks of exists: a run with two entries of one commitment that hide different parties, and a ceremony's history
 pub record Witness : Type 0 where
@@ -129,6 +135,9 @@ pub record Refusals : Type 0 where
   pub read-room : reads end 1 380 ≡ Err (fault.Output 381)
   pub recover-missing : recovers mix mix end 2 5 0 0 0 ≡ Err (fault.Missing 2)
   pub recover-second-missing : recovers mix mix end 0 5 0 0 0 ≡ Err (fault.Missing 5)
+  -- one commitment with two keys: d2 is not the same
+  pub lodge-other-d2 : lodges mix mix first (second 1) middle other-d2-record work ≡ Ok 1
+  pub recover-unequal : recovers mix mix (appended middle (chosen first (second 1) other-d2-record)) 0 1 0 0 0 ≡ Err fault.Unequal
   pub recover-itself : recovers mix mix end 0 0 0 0 0 ≡ Err (fault.Repetition 0)
   pub recover-repetition : recovers mix mix end 0 1 2 0 0 ≡ Err (fault.Repetition 2)
   pub recover-work : recovers mix mix end 0 1 0 675 0 ≡ Err (fault.Memory 676)
