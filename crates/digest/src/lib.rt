@@ -2,3 +2,5 @@
 
 pub mod maker;
 pub mod parts;
+pub mod short;
+pub mod shorts;
