@@ -1,4 +1,4 @@
--- The schedule, word by word.
+-- The message schedule, word by word.
 use mathlib.Core.Path.{_≡_, refl, sym, ap, _∙_}
 use mathlib.Core.Bool.{Bool, true, false, cond}
 use mathlib.Core.List.{List, [], _∷_, _++_}
@@ -18,7 +18,7 @@ next-take w n h =
     let b : n - 7 < n = omega arith in
     let c : n - 15 < n = omega arith in
     let d : n - 16 < n = omega arith in
-    rw (getD-take n w (n - 2) 0, getD-take n w (n - 7) 0, getD-take n w (n - 15) 0, getD-take n w (n - 16) 0)
+    rw (getD-take n w (n - 2) 0 a, getD-take n w (n - 7) 0 b, getD-take n w (n - 15) 0 c, getD-take n w (n - 16) 0 d)
 
 at-word : (b w : List ℕ) (n : ℕ) (t : Bool) → ltb n 16 ≡ t → cond t (block-word b n) (next-word (take n w) n) ≡ cond t (block-word b n) (next-word w n)
 at-word b w n true e = refl

@@ -4,4 +4,5 @@ mod compression;
 pub mod hash;
 mod hasher;
 mod hashing;
+pub mod stretched;
 pub mod tables;
