@@ -1,15 +1,15 @@
 -- How the words of a hasher change as bytes come in.
-use Prim.Native.Nat.{ℕ, zero, suc, _+_, _-_, _*_, _/_, _%_, _^_, _<_, _≤_}
+use Prim.Native.Nat.{ℕ, suc, _+_, _-_, _/_, _%_, _^_, _<_, _≤_}
 use mathlib.Core.Path.{_≡_, refl, sym, ap, ap₂, _∙_}
-use mathlib.Core.List.{List, [], _∷_, _++_, append-assoc}
+use mathlib.Core.List.{List, [], _++_, append-assoc}
 use native.Mathlib.Omega.{arith}
 use borrow.Rule.Slice.PartMut.{putMid}
-use lib.ListN.{length, take, drop, replicate, length-append, length-take, length-replicate}
+use lib.ListN.{length, take, drop, length-append, length-take}
 use Rattle.std.proofs.shelf.Lanes.{length-chunk, chunk-drop}
-use Rattle.std.proofs.shelf.Lists.{take-at, drop-at, take-rest, take-append-drop, drop-drop, drop-all, append-nil, take-replicate}
+use Rattle.std.proofs.shelf.Lists.{take-at, drop-at, take-rest, take-append-drop, drop-drop, drop-all, append-nil}
 use Rattle.std.proofs.shelf.Parts.{take-putMid}
 use Rattle.sha512.specs.Sha512.{compressed}
-use Rattle.sha512.specs.Hash.{be128, zeros, padding, blocks, absorbed}
+use Rattle.sha512.specs.Hash.{blocks, absorbed}
 
 pub absorbed-none : (h : List ℕ) → absorbed h [] ≡ h
 unfolding absorbed blocks

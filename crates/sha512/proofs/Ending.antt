@@ -1,11 +1,11 @@
 -- The end of a text: its padding, and the hash that a hasher comes to.
-use Prim.Native.Nat.{ℕ, suc, _+_, _-_, _*_, _%_, _^_, _<_}
-use mathlib.Core.Path.{_≡_, refl, sym, ap, ap₂, _∙_}
+use Prim.Native.Nat.{ℕ, suc, _+_, _-_, _*_, _%_}
+use mathlib.Core.Path.{_≡_, sym, ap, ap₂, _∙_}
 use mathlib.Core.List.{List, [], _∷_, _++_, append-assoc}
 use native.Mathlib.Nat.{add-zero, zero-add}
 use native.Mathlib.Omega.{arith}
 use lib.ListN.{length, take, replicate, length-append}
-use Rattle.std.proofs.shelf.Lists.{append-nil, take-replicate}
+use Rattle.std.proofs.shelf.Lists.{take-replicate}
 use Rattle.sha512.specs.declared.hasher.Hasher.{Hasher}
 use Rattle.sha512.specs.Sha512.{initial}
 use Rattle.sha512.specs.Hash.{be128, zeros, padding, absorbed, hash-words}

@@ -1,14 +1,14 @@
 -- The stream of a hasher, as bytes come in and are drawn.
-use Prim.Native.Nat.{ℕ, _+_, _-_, _/_, _%_, _^_, _<_, _≤_}
+use Prim.Native.Nat.{ℕ, _+_, _-_, _/_, _%_, _<_, _≤_}
 use mathlib.Core.Path.{_≡_, refl, sym, ap, ap₂, _∙_}
-use mathlib.Core.List.{List, [], _∷_, _++_, append-assoc}
+use mathlib.Core.List.{List, [], _++_, append-assoc}
 use mathlib.Core.Logic.{inl, inr}
 use native.Mathlib.Omega.{arith}
 use lib.ListN.{length, getD, take, drop}
 use Rattle.std.proofs.shelf.Counted.{getD-map-counting}
 use Rattle.std.proofs.shelf.Lists.{getD-take, getD-drop}
 use Rattle.std.proofs.shelf.Tests.{cases-lt}
-use Rattle.protocol.specs.Streams.{Digest, Gives-bytes, first-bytes}
+use Rattle.protocol.specs.Streams.{Gives-bytes, first-bytes}
 use Rattle.digest.specs.Making.{Making, Holding, Took, Drew}
 use Rattle.sha512.specs.declared.hasher.Hasher.{Hasher}
 use Rattle.sha512.specs.Sha512.{initial}

@@ -132,8 +132,8 @@ fn all_rounds(words: [u64; 8], schedule: &[u64; 80]) -> [u64; 8]
     ensures { λ r. ⌜ r ≡ rounds words (now (schedule .entry)) 80 ⌝ }
 {
     let mut v = words;
-    for t in 0..80 {
-        let next = one_round(v, ROUND_CONSTANTS[t], schedule[t]);
+    for step in 0..80 {
+        let next = one_round(v, ROUND_CONSTANTS[step], schedule[step]);
         v = next;
     }
     v

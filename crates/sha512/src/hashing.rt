@@ -1,10 +1,10 @@
 //! How a hasher takes bytes, and the hash at the end.
 ghost use mathlib.Core.Path.{_≡_};
-ghost use mathlib.Core.List.{List, [], _∷_, _++_};
-ghost use Prim.Native.Nat.{ℕ, _+_, _-_, _*_, _/_, _%_, _^_, _<_, _≤_};
+ghost use mathlib.Core.List.{List, [], _++_};
+ghost use Prim.Native.Nat.{ℕ, _+_, _%_, _^_, _<_, _≤_};
 ghost use lib.ListN.{length, replicate};
 ghost use Rattle.sha512.specs.Sha512.{initial};
-ghost use Rattle.sha512.specs.Hash.{zeros, byte-of, word-bytes, hash};
+ghost use Rattle.sha512.specs.Hash.{byte-of, word-bytes};
 ghost use Rattle.sha512.specs.Hashing.{after, ended};
 use crate::compression::compress;
 use crate::hasher::Hasher;

@@ -4,15 +4,15 @@ use native.Mathlib.Numerals.{add-one}
 use Rattle.sha512.specs.Sha512.{rounds}
 use Rattle.sha512.proofs.compression.all_rounds.Needs as need
 
-pub loop-t-holds : need.loop-t-holds
+pub loop-step-holds : need.loop-step-holds
 unfolding rounds
-loop-t-holds c = refl
+loop-step-holds c = refl
 
-pub loop-t-again : need.loop-t-again
+pub loop-step-again : need.loop-step-again
 unfolding rounds
-loop-t-again c = rw add-one (cc)
+loop-step-again c = rw add-one (cc)
 
 pub returns : need.returns
 returns c =
-    let end : c .loop-t .t ≡ 80 = omega arith in
+    let end : c .loop-step .step ≡ 80 = omega arith in
     cc

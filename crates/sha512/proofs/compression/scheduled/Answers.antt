@@ -1,6 +1,6 @@
 use mathlib.Core.Path.{_≡_, refl, sym, ap, _∙_}
 use native.Mathlib.Omega.{arith}
-use lib.ListN.{length, take, length-set}
+use lib.ListN.{length, length-set}
 use Rattle.std.proofs.shelf.Lists.{take-all}
 use Rattle.sha512.specs.Sha512.{schedule}
 use Rattle.sha512.proofs.Schedules.{schedule-more}

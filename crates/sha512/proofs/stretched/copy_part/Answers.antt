@@ -1,4 +1,3 @@
-use native.Mathlib.Omega.{arith}
 use borrow.Author.Needs.{needs}
 use Rattle.std.proofs.shelf.Lists.{places}
 use Rattle.sha512.proofs.stretched.copy_part.Needs as need
