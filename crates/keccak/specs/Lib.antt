@@ -1,0 +1,3 @@
+pub mod Keccak
+pub mod Tables
+pub mod Sponge
