@@ -1,0 +1,2 @@
+pub mod Absorption
+pub mod Squeezed
