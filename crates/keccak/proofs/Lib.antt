@@ -1,2 +1,3 @@
 pub mod Absorption
 pub mod Squeezed
+pub mod Makers

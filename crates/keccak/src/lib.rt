@@ -4,5 +4,8 @@ pub mod block;
 pub mod giving;
 pub mod permutation;
 pub mod rounds;
+pub mod shake128;
+pub mod shake256;
+pub mod state;
 pub mod tables;
 pub mod taking;
