@@ -1,6 +1,6 @@
 -- What the calls of a SHAKE256 maker do to what it means, and SHAKE in one call.
 use Prim.Native.Nat.{ℕ, _+_, _<_}
-use mathlib.Core.Path.{_≡_, refl, sym, ap, ap₂, _∙_}
+use mathlib.Core.Path.{_≡_, refl, sym, ap, ap₂, subst, _∙_}
 use mathlib.Core.Bool.{cond}
 use mathlib.Core.List.{List, [], _++_}
 use native.Mathlib.Nat.{zero-add}
@@ -29,6 +29,10 @@ blank-holds s (lanes, block, filled, used, taken, drawn) = record {
 -- once something was drawn, the lanes give what is to come
 pub once-drawn : (drawn a b : ℕ) → 0 < drawn → cond (eqb drawn 0) a b ≡ b
 once-drawn drawn a b h = cond-false (eqb drawn 0) a b (ne-eqb drawn 0 (λ e. omega arith))
+
+-- a rate that is known
+pub at-rate : (r n : ℕ) (a b : List ℕ) (i j : ℕ) → r ≡ n → stream r a i ≡ stream r b j → stream n a i ≡ stream n b j
+at-rate r n a b i j e h = subst (λ m. stream m a i ≡ stream m b j) e h
 
 pub drew-none : (out : List ℕ) (m : Making) → length out ≡ 0 → Drew out m m
 unfolding first-bytes

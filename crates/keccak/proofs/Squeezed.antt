@@ -1,14 +1,15 @@
 -- How what is left of a stream is kept as a sponge gives bytes.
-use Prim.Native.Nat.{ℕ, zero, suc, _+_, _-_, _/_, _%_, _<_, _≤_}
+use Prim.Native.Nat.{ℕ, zero, suc, _+_, _-_, _*_, _/_, _%_, _^_, _<_, _≤_}
 use mathlib.Core.Path.{_≡_, refl, sym, ap, ap₂, subst, _∙_}
 use mathlib.Core.Logic.{_⊎_, inl, inr}
-use mathlib.Core.List.{List}
+use mathlib.Core.List.{List, [], _∷_, _++_}
 use native.Mathlib.Nat.{add-div-left, add-mod-left, div-eq-of-lt, mod-eq-of-lt}
 use native.Mathlib.Omega.{arith}
 use native.Mathlib.Numerals.{add-one}
-use borrow.Author.Count.{below-more}
-use lib.ListN.{length, getD, set}
-use lib.Seq.{getD-set-same, getD-set-other}
+use lib.ListN.{length, getD, take, drop}
+use lib.Seq.{paste}
+use Rattle.std.proofs.shelf.Edits.{getD-between, paste-all}
+use Rattle.std.proofs.shelf.Lists.{length-take-le, getD-take, getD-append-add, getD-append-left}
 use Rattle.std.proofs.shelf.Tests.{cases-lt}
 use Rattle.keccak.specs.Keccak.{keccak-f}
 use Rattle.keccak.specs.Sponge.{byte-of, after, stream, shake}
@@ -36,14 +37,45 @@ renewed r s t used i some is e =
     let z : r + (0 + i) ≡ used + i = omega arith in
     ap (λ w. stream r w (0 + i)) e ∙ stream-next r s (0 + i) some ∙ ap (stream r s) z
 
--- one byte more, written at `at + n`
-pub byte-written : (f : ℕ → ℕ) (xs : List ℕ) (at n v : ℕ) → at + n < length xs → v ≡ f n → ((k : ℕ) → k < n → getD xs (at + k) 0 ≡ f k)
-    → (k : ℕ) → k < n + 1 → getD (set xs (at + n) v) (at + k) 0 ≡ f k
-byte-written f xs at n v h e was =
-    below-more _ n (λ k l. getD-set-other xs (at + n) (at + k) v 0 (λ o. omega arith) ∙ was k l) (getD-set-same xs (at + n) v 0 h ∙ e)
+-- the bytes of a lane
+pub lane-byte : (x k : ℕ) → k < 8
+    → getD (x % 256 ∷ x / 256 % 256 ∷ x / 65536 % 256 ∷ x / 16777216 % 256 ∷ x / 4294967296 % 256 ∷ x / 1099511627776 % 256
+    ∷ x / 281474976710656 % 256 ∷ x / 72057594037927936 % 256 ∷ []) k 0 ≡ x / 2 ^ (8 * k) % 256
+lane-byte x zero h = let e : x % 256 ≡ x / 1 % 256 = omega arith in e
+lane-byte x (suc zero) h = refl
+lane-byte x (suc (suc zero)) h = refl
+lane-byte x (suc (suc (suc zero))) h = refl
+lane-byte x (suc (suc (suc (suc zero)))) h = refl
+lane-byte x (suc (suc (suc (suc (suc zero))))) h = refl
+lane-byte x (suc (suc (suc (suc (suc (suc zero)))))) h = refl
+lane-byte x (suc (suc (suc (suc (suc (suc (suc zero))))))) h = refl
+lane-byte x (suc (suc (suc (suc (suc (suc (suc (suc k)))))))) h = absurd (omega arith)
 
-pub before-same : (xs ys : List ℕ) (at n v : ℕ) → ((k : ℕ) → k < at → getD xs k 0 ≡ getD ys k 0) → (k : ℕ) → k < at → getD (set xs (at + n) v) k 0 ≡ getD ys k 0
-before-same xs ys at n v was k l = getD-set-other xs (at + n) k v 0 (λ o. omega arith) ∙ was k l
+-- byte k of lane i is byte 8 * i + k of the state
+pub state-byte : (s : List ℕ) (i k : ℕ) → k < 8 → getD s i 0 / 2 ^ (8 * k) % 256 ≡ byte-of s (8 * i + k)
+unfolding byte-of
+state-byte s i k h =
+    let a : i ≡ (8 * i + k) / 8 = omega arith in
+    let b : k ≡ (8 * i + k) % 8 = omega arith in
+    λ z. getD s (a z) 0 / 2 ^ (8 * b z) % 256
+
+-- what a copy leaves: the bytes from `at` on, and what stood before
+pasted : (d s : List ℕ) (at : ℕ) → paste d at s (length s) ≡ take at d ++ (s ++ drop (at + length s) d)
+pasted d s at = paste-all d at s (length s) refl
+
+pub pasted-in : (d s : List ℕ) (at k : ℕ) → at ≤ length d → k < length s → getD (paste d at s (length s)) (at + k) 0 ≡ getD s k 0
+pasted-in d s at k le h =
+    ap₂ (λ t n. getD t (n + k) 0) (pasted d s at) (sym (length-take-le at d le))
+    ∙ getD-append-add (take at d) (s ++ drop (at + length s) d) k 0 ∙ getD-append-left s (drop (at + length s) d) 0 k h
+
+pub pasted-before : (d s : List ℕ) (at k : ℕ) → at ≤ length d → k < at → getD (paste d at s (length s)) k 0 ≡ getD d k 0
+pasted-before d s at k le h =
+    ap (λ t. getD t k 0) (pasted d s at)
+    ∙ getD-append-left (take at d) (s ++ drop (at + length s) d) 0 k (omega (arith, length-take-le at d le)) ∙ getD-take at d k 0 h
+
+-- byte k of a part
+pub part-byte : (b : List ℕ) (at n k : ℕ) → k < n → getD (take (at + n - at) (drop at b)) k 0 ≡ getD b (at + k) 0
+part-byte b at n k h = getD-between b at (at + n) k 0 (omega arith)
 
 -- n bytes more, given at `done`
 pub more-given : (f : ℕ → ℕ) (old out : List ℕ) (done n : ℕ) → ((k : ℕ) → k < done → getD old k 0 ≡ f k)

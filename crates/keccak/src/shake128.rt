@@ -15,5 +15,5 @@ pub fn shake128(text: &[u8], out: &mut [u8])
     let mut block = [0; 168];
     let filled = take_in(&mut lanes, &mut block, 0, text);
     close(&mut lanes, &mut block, filled);
-    let _ = squeeze(&mut lanes, 168, 0, out);
+    let _ = squeeze(&mut lanes, &mut block, 0, out);
 }

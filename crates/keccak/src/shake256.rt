@@ -80,7 +80,7 @@ pub impl DigestMaker for Shake256 as Shake256Maker {
             return Ok(());
         }
         self.end_text();
-        self.used = squeeze(&mut self.lanes, 136, self.used, out);
+        self.used = squeeze(&mut self.lanes, &mut self.block, self.used, out);
         self.drawn += more;
         Ok(())
     }

@@ -8,12 +8,12 @@ ghost use lib.Seq.{paste};
 ghost use Rattle.keccak.specs.Sponge.{absorbed, padded, sponge};
 use crate::block::absorb;
 
-// Copies the bytes into the block, from a place on.
-fn put(block: &mut [u8], at: usize, bytes: &[u8])
-    requires { ⌜ at + length (now bytes) ≤ length (now block) ⌝ }
-    ensures { λ _. ⌜ now (block .exit) ≡ paste (now (block .entry)) at (now (bytes .entry)) (length (now (bytes .entry))) ⌝ }
+// Copies the bytes into a buffer, from a place on.
+pub(crate) fn put(out: &mut [u8], at: usize, bytes: &[u8])
+    requires { ⌜ at + length (now bytes) ≤ length (now out) ⌝ }
+    ensures { λ _. ⌜ now (out .exit) ≡ paste (now (out .entry)) at (now (bytes .entry)) (length (now (bytes .entry))) ⌝ }
 {
-    block[at..at + bytes.len()].copy_from_slice(bytes);
+    out[at..at + bytes.len()].copy_from_slice(bytes);
 }
 
 // Absorbs the whole blocks that the bytes begin with; answers where the rest begins.

@@ -6,7 +6,8 @@ use Rattle.keccak.proofs.giving.squeeze.Given as given
 
 abbrev pub Inv-loop-done : given.InvT-loop-done
 Inv-loop-done l =
-    (l .next ≤ l .rate)
+    (length (l .block) ≡ l .rate)
+    × (l .next ≤ l .rate)
     × (l .done ≤ length (l .entry .out))
     × ((k : ℕ) → k < l .done → getD (l .out) k 0 ≡ stream (l .rate) (l .entry .lanes) (l .used + k))
     × ((i : ℕ) → stream (l .rate) (l .lanes) (l .next + i) ≡ stream (l .rate) (l .entry .lanes) (l .used + (l .done + i)))

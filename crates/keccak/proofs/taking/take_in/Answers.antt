@@ -32,8 +32,8 @@ returns c =
     record {
       held = omega arith;
       same = λ x.
-          ap (λ k. sponge (length block) (c .absorb-blocks-whole .last .lanes) (take k (c .put-3 .last .block) ++ x)) (sym l)
-          ∙ many-taken (c .args .lanes .now) (c .absorb .last .lanes) (c .absorb-blocks-whole .last .lanes) block head rest left (c .put-2 .last .block) (c .put-3 .last .block) bytes x
+          ap (λ k. sponge (length block) (c .absorb-blocks-whole .last .lanes) (take k (c .put-3 .last .out) ++ x)) (sym l)
+          ∙ many-taken (c .args .lanes .now) (c .absorb .last .lanes) (c .absorb-blocks-whole .last .lanes) block head rest left (c .put-2 .last .out) (c .put-3 .last .out) bytes x
           (c .args .filled) gone (omega arith) (omega arith) parts (c .put-2 .ensures) (omega arith) (c .absorb .ensures) (c .absorb-blocks-whole .ensures .same)
           (take-rest rest gone) (c .put-3 .ensures);
     }
