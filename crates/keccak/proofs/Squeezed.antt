@@ -39,8 +39,8 @@ renewed r s t used i some is e =
 
 -- the bytes of a lane
 pub lane-byte : (x k : ℕ) → k < 8
-    → getD (x % 256 ∷ x / 256 % 256 ∷ x / 65536 % 256 ∷ x / 16777216 % 256 ∷ x / 4294967296 % 256 ∷ x / 1099511627776 % 256
-    ∷ x / 281474976710656 % 256 ∷ x / 72057594037927936 % 256 ∷ []) k 0 ≡ x / 2 ^ (8 * k) % 256
+    → getD (x % 256 ∷ x / 2 ^ 8 % 256 ∷ x / 2 ^ 16 % 256 ∷ x / 2 ^ 24 % 256 ∷ x / 2 ^ 32 % 256 ∷ x / 2 ^ 40 % 256
+    ∷ x / 2 ^ 48 % 256 ∷ x / 2 ^ 56 % 256 ∷ []) k 0 ≡ x / 2 ^ (8 * k) % 256
 lane-byte x zero h = let e : x % 256 ≡ x / 1 % 256 = omega arith in e
 lane-byte x (suc zero) h = refl
 lane-byte x (suc (suc zero)) h = refl

@@ -12,9 +12,8 @@ byte-of s k = getD s (k / 8) 0 / 2 ^ (8 * (k % 8)) % 256
 
 unfoldable pub lane-of : List ℕ → ℕ → ℕ
 lane-of b i =
-    getD b (8 * i) 0 + getD b (8 * i + 1) 0 * 256 + getD b (8 * i + 2) 0 * 65536 + getD b (8 * i + 3) 0 * 16777216
-    + getD b (8 * i + 4) 0 * 4294967296 + getD b (8 * i + 5) 0 * 1099511627776 + getD b (8 * i + 6) 0 * 281474976710656
-    + getD b (8 * i + 7) 0 * 72057594037927936
+    getD b (8 * i) 0 + getD b (8 * i + 1) 0 * 2 ^ 8 + getD b (8 * i + 2) 0 * 2 ^ 16 + getD b (8 * i + 3) 0 * 2 ^ 24
+    + getD b (8 * i + 4) 0 * 2 ^ 32 + getD b (8 * i + 5) 0 * 2 ^ 40 + getD b (8 * i + 6) 0 * 2 ^ 48 + getD b (8 * i + 7) 0 * 2 ^ 56
 
 -- the state with the first n lanes of a block added
 unfoldable pub added : List ℕ → List ℕ → ℕ → List ℕ

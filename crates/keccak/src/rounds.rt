@@ -118,8 +118,8 @@ fn mix_rows(a: [u64; 25]) -> [u64; 25]
     ]
 }
 
-/// One round, with its constant.
-pub fn one_round(a: [u64; 25], constant: u64) -> [u64; 25]
+// One round, with its constant.
+pub(crate) fn one_round(a: [u64; 25], constant: u64) -> [u64; 25]
     ensures { λ r. ⌜ r ≡ round a constant ⌝ }
 {
     let mut next = mix_rows(spread(mix_columns(a)));

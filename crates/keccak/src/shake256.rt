@@ -5,7 +5,7 @@ ghost use Prim.Native.Nat.{ℕ};
 ghost use Rattle.keccak.specs.Sponge.{shake256};
 ghost use Rattle.keccak.specs.Meaning.{by-squeezing, still-to-come, meaning, Blank};
 use crate::giving::squeeze;
-use crate::state::Shake256;
+pub use crate::state::Shake256;
 use crate::taking::close;
 use crate::taking::take_in;
 use digest::maker::DigestMaker;

@@ -1,5 +1,6 @@
 //! What a SHAKE256 maker holds.
 ghost use Prim.Native.Nat.{_<_, _≤_};
+ghost use Rattle.digest.specs.Making.{limit};
 
 /// While nothing was drawn, the first `filled` bytes of the block wait to be absorbed; from then on, `used` bytes of the lanes were given.
 #[derive(Drop)]
@@ -11,5 +12,5 @@ pub struct Shake256 {
     pub(crate) taken: u64,
     pub(crate) drawn: u64,
     ghost places: { (filled < 136) × (used ≤ 136) },
-    ghost within: { (taken ≤ 4294967295) × (drawn ≤ 4294967295) },
+    ghost within: { (taken ≤ limit) × (drawn ≤ limit) },
 }

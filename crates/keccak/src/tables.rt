@@ -1,8 +1,8 @@
 //! The tables of the permutation, as the standard makes them.
 ghost use Rattle.keccak.specs.Tables.{Constants-by-register, Offsets-by-walk};
 
-/// What iota adds to the first lane, round by round.
-pub const ROUND_CONSTANTS: [u64; 24] = [
+// What iota adds to the first lane, round by round.
+pub(crate) const ROUND_CONSTANTS: [u64; 24] = [
     0x0000000000000001,
     0x0000000000008082,
     0x800000000000808a,
