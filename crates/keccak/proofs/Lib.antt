@@ -1,0 +1,3 @@
+pub mod Absorption
+pub mod Squeezed
+pub mod Makers

@@ -1,0 +1,4 @@
+pub mod Keccak
+pub mod Tables
+pub mod Sponge
+pub mod Meaning
