@@ -4,6 +4,9 @@ ghost use mathlib.Core.List.{[], _∷_};
 ghost use Prim.Native.Nat.{ℕ, _+_, _%_, _<_, _≤_};
 ghost use lib.ListN.{length, getD, replicate};
 ghost use Rattle.std.specs.Results.{Cases};
+ghost use Rattle.std.specs.Vec.{made};
+ghost use Rattle.protocol.specs.Flags.{ones};
+ghost use Rattle.challenge.specs.Counting.{Plain};
 ghost use Rattle.protocol.specs.Header.{length-test};
 ghost use Rattle.protocol.specs.Of.{parameters};
 ghost use Rattle.protocol.specs.Parameters.{sigma, parties};
@@ -70,6 +73,7 @@ pub fn select_kept<C: Challenger>(
     ensures answer { λ r. ⌜ r ≡ firstOf (length-test (length (now (flags .entry))) (parameters header .m) ∷ []) tt ⌝ }
     ensures flags { λ r. ⌜ Cases r (λ _. now (flags .exit) ≡ selected (C·Challenger .answers (now (challenger .entry)) .first (short-bytes (now (salt .entry))) (short-bytes (now (d1 .entry)))) (parameters header .m) (sigma (parameters header))) (λ _. now (flags .exit) ≡ now (flags .entry)) ⌝ }
     ensures asked { λ r. ⌜ Cases r (λ _. Same-answers (C·Challenger .answers (now (challenger .entry))) (C·Challenger .answers (now (challenger .exit)))) (λ _. C·Challenger .answers (now (challenger .exit)) ≡ C·Challenger .answers (now (challenger .entry))) ⌝ }
+    ensures chosen { λ r. ⌜ made r (λ _. Plain (now (flags .exit)) × (ones (now (flags .exit)) ≡ sigma (parameters header))) ⌝ }
 {
     let due = header.m as usize;
     if flags.len() != due {

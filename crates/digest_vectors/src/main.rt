@@ -51,16 +51,16 @@ fn digest_uneven<D: DigestMaker>(
     n: usize,
 ) -> Result<String, AnyError> {
     maker.begin();
-    let mut at = 0;
-    for size in 0..bytes.len() + 2 {
-        let end = bytes.len().min(at + size);
-        if maker.take(&bytes[at..end]).is_err() {
+    let mut rest = bytes;
+    for size in 0..64usize {
+        let k = size.min(rest.len());
+        if maker.take(&rest[0..k]).is_err() {
             return Err("refused".into());
         }
-        at = end;
+        rest = &rest[k..];
     }
     let mut all = Vec::new(heap);
-    for size in 0..n + 2 {
+    for size in 0..64usize {
         let more = size.min(n.saturating_sub(all.len()));
         let mut out = vec![in heap; 0u8; more]?;
         if maker.draw(out.as_mut_slice()).is_err() {
