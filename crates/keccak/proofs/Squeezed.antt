@@ -1,7 +1,7 @@
 -- How what is left of a stream is kept as a sponge gives bytes.
 use Prim.Native.Nat.{ℕ, zero, suc, _+_, _-_, _*_, _/_, _%_, _^_, _<_, _≤_}
 use mathlib.Core.Path.{_≡_, refl, sym, ap, ap₂, subst, _∙_}
-use mathlib.Core.Logic.{_⊎_, inl, inr}
+use mathlib.Core.Logic.{inl, inr}
 use mathlib.Core.List.{List, [], _∷_, _++_}
 use native.Mathlib.Nat.{add-div-left, add-mod-left, div-eq-of-lt, mod-eq-of-lt}
 use native.Mathlib.Omega.{arith}

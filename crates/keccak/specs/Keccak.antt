@@ -1,6 +1,6 @@
 -- Keccak-f[1600] of FIPS 202, step by step, on a list of 25 lanes of 64 bits; lane (x, y) stands at 5 * y + x.
 use Prim.Native.Nat.{ℕ, zero, suc, _+_, _-_, _*_, _/_, _%_, _^_}
-use mathlib.Core.List.{List, [], _∷_, map}
+use mathlib.Core.List.{List, map}
 use lib.Bits.{bitAnd, bitOr, bitXor}
 use lib.ListN.{getD, set}
 use Rattle.std.specs.Iters.{counting}

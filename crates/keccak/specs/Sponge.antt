@@ -1,6 +1,6 @@
 -- The sponge of FIPS 202 over Keccak-f[1600], on bytes, at a rate of r bytes; SHAKE256 and SHAKE128 are it at two rates.
 use Prim.Native.Nat.{ℕ, zero, suc, _+_, _-_, _*_, _/_, _%_, _^_}
-use mathlib.Core.List.{List, [], _∷_, _++_}
+use mathlib.Core.List.{List, _∷_, _++_}
 use lib.Bits.{bitXor}
 use lib.ListN.{length, getD, set, take, drop, replicate}
 use Rattle.protocol.specs.Streams.{Digest}

@@ -5,7 +5,7 @@ ghost use mathlib.Core.List.{List, _++_};
 ghost use Prim.Native.Nat.{ℕ, _+_, _<_, _≤_};
 ghost use lib.ListN.{length, take, drop};
 ghost use lib.Seq.{paste};
-ghost use Rattle.keccak.specs.Sponge.{absorbed, padded, sponge};
+ghost use Rattle.keccak.specs.Sponge.{sponge};
 use crate::block::absorb;
 
 // Copies the bytes into a buffer, from a place on.

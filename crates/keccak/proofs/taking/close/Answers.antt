@@ -1,7 +1,6 @@
 use Prim.Native.Nat.{_+_}
 use mathlib.Core.Path.{_≡_, refl, sym, ap, _∙_}
 use native.Mathlib.Omega.{arith}
-use borrow.Author.Needs.{needs}
 use lib.ListN.{length, set, take, length-set}
 use Rattle.keccak.specs.Sponge.{sponge}
 use Rattle.keccak.proofs.Absorption.{pad-start, pad-more, closed}

@@ -1,7 +1,7 @@
 use Prim.Native.Nat.{_+_, _-_}
 use mathlib.Core.Path.{_≡_}
 use mathlib.Core.List.{_∷_, _++_}
-use lib.ListN.{take, length, replicate}
+use lib.ListN.{take, replicate}
 use Rattle.keccak.proofs.taking.close.Given as given
 
 abbrev pub Inv-loop-k : given.InvT-loop-k
