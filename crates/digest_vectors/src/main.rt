@@ -1,6 +1,7 @@
 //! Digests of known texts by both kinds of maker, to be held to the values of other tools: texts of 0 to 300 bytes, texts that are
-//! taken and streams that are drawn in uneven pieces, and a long stream.
+//! taken and streams that are drawn in uneven pieces, long streams; and SHAKE128 of texts of 0 to 400 bytes.
 use digest::maker::DigestMaker;
+use keccak::shake128::shake128;
 use keccak::shake256::Shake256;
 use keccak::shake256::Shake256Maker;
 use sha512::stretched::Stretched;
@@ -102,9 +103,36 @@ fn lines<D: DigestMaker>(rt: &LibcRuntime, name: &str, maker: &mut D) -> Result<
     Ok(())
 }
 
+/// The first bytes of SHAKE128 of a text.
+fn digest128(heap: Global, bytes: &[u8], n: usize) -> Result<String, AnyError> {
+    let mut out = vec![in heap; 0u8; n]?;
+    shake128(bytes, out.as_mut_slice());
+    Ok(hex(heap, out.as_slice())?)
+}
+
+fn lines128(rt: &LibcRuntime) -> Result<(), AnyError> {
+    let heap = rt.alloc();
+    for n in 0..401usize {
+        let bytes = text(heap, n)?;
+        println!(
+            rt,
+            "shake128 {n} {}",
+            digest128(heap, bytes.as_slice(), 16)?
+        )?;
+    }
+    let bytes = text(heap, 18)?;
+    println!(
+        rt,
+        "shake128 long {}",
+        digest128(heap, bytes.as_slice(), 2688)?
+    )?;
+    Ok(())
+}
+
 fn main(rt: LibcRuntime) -> Result<(), AnyError> {
     let mut shake = Shake256::new();
     lines(&rt, "shake256", &mut shake)?;
     let mut sha = Stretched::new();
-    lines(&rt, "sha512", &mut sha)
+    lines(&rt, "sha512", &mut sha)?;
+    lines128(&rt)
 }
