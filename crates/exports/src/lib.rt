@@ -1,4 +1,6 @@
-//! The digests as C functions, for benchmarks and tests from other languages.
+//! The digests, and a row of a product, as C functions, for benchmarks and tests from other languages.
+pub mod product;
+
 ghost use mathlib.Core.Path.{_≡_};
 ghost use lib.ListN.{length};
 ghost use Rattle.std.specs.Orderings.{When};

@@ -1,0 +1,4 @@
+pub mod Sizes
+pub mod Dots
+pub mod Streams
+pub mod Entrywise
