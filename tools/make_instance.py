@@ -102,31 +102,29 @@ def main():
     put("the-memory", memory, "the book after both were lodged")
     put("the-recovered", seeds_and_values, "four leaf seeds of repetition 0, and eleven values")
 
-    q, _ = prover(other := other_attributes(p), SEED_A)
-    assert q.d1 == p.d1 and q.text6 != p.text6
-    r6 = q.open(second(1))
-    a6 = lodge(mix, mix, first, second(1), r6, WORK, ENTRY)
-    answer6 = recover([book[0], a6], 0, 1, 0, 2 * WORK, 1 << 20)
-    assert answer6[0] == 6
+    def differing(label, attributes, seedA):
+        """A record of other attributes or another seedA under the same digests, and where recover says that the texts differ."""
+        q, _ = prover(attributes, seedA)
+        assert (q.d1, q.d2) == (p.d1, p.d2)
+        r = q.open(second(1))
+        a = lodge(mix, mix, first, second(1), r, WORK, ENTRY)
+        answer = recover([book[0], a], 0, 1, 0, 2 * WORK, 1 << 20)
+        assert answer[0] == label
+        return r, answer[1]
+
+    other, seed = other_attributes(p), other_seed(p)
+    r6, at6 = differing(6, other, SEED_A)
     put("other-attributes", other, "a collision of text 6: other attributes under the same digest")
     put("other-text6-record", r6)
-    out.append(f"abbrev pub text6-differs-at : ℕ\ntext6-differs-at = {answer6[1]}\n")
+    out.append(f"abbrev pub text6-differs-at : ℕ\ntext6-differs-at = {at6}\n")
 
-    q, _ = prover(ATTRIBUTES, seed := other_seed(p))
-    assert q.d2 == p.d2 and q.text7 != p.text7
-    r7 = q.open(second(1))
-    a7 = lodge(mix, mix, first, second(1), r7, WORK, ENTRY)
-    answer7 = recover([book[0], a7], 0, 1, 0, 2 * WORK, 1 << 20)
-    assert answer7[0] == 7
+    r7, at7 = differing(7, ATTRIBUTES, seed)
     put("other-seedA", seed, "a collision of text 7: another seedA under the same digest")
     put("other-text7-record", r7)
-    out.append(f"abbrev pub text7-differs-at : ℕ\ntext7-differs-at = {answer7[1]}\n")
+    out.append(f"abbrev pub text7-differs-at : ℕ\ntext7-differs-at = {at7}\n")
 
-    q, _ = prover(other, seed)
-    assert (q.d1, q.d2) == (p.d1, p.d2)
-    both = q.open(second(1))
-    answer = recover([book[0], lodge(mix, mix, first, second(1), both, WORK, ENTRY)], 0, 1, 0, 2 * WORK, 1 << 20)
-    assert answer[0] == 6 and answer[1] == answer6[1]
+    both, at = differing(6, other, seed)
+    assert at == at6
     put("both-differ-record", both, "other attributes and another seedA")
 
     q, _ = prover(ATTRIBUTES, bytes(16))
@@ -184,7 +182,7 @@ pub data Spoiled : Type 0 where
 """
     path = os.path.join(os.path.dirname(os.path.abspath(__file__)), "..", "crates", "instance", "specs", "Values.antt")
     open(path, "w").write(head + "\n".join(out))
-    print(len(rows), "spoiled records; texts 6 differ at", answer6[1], "and texts 7 at", answer7[1])
+    print(len(rows), "spoiled records; texts 6 differ at", at6, "and texts 7 at", at7)
 
 
 main()
