@@ -3,7 +3,7 @@
 
 usage: python3 tools/respell.py        at the top of the repository, once, after /opt/rattle/port/port.py
 
-It goes over the .antt files and the ghost lines and clauses of the .rt files, and renames each name that an .antt file of the
+It goes over the .antt files and the ghost lines and clauses of the .rt files, without their strings, and renames each name that an .antt file of the
 repository declares, or imports under, with a dash (or as `seedA` and `getD`), wherever it stands as a whole word. What Rattle itself makes, as
 `loop-i-preserved`, keeps its dashes, and so does the first dash of `length-append` and its like, which joins two names. Functions of
 src/, strings, inputs and outputs are not touched. It stops where two names would fall together.
@@ -13,7 +13,7 @@ import glob
 import re
 import sys
 
-WORD = re.compile(r"[^\s(){}\[\],;.:=«»\"`⌜⌝]+")
+WORD = re.compile(r"\"[^\"\n]*\"|[^\s(){}\[\],;.:=«»\"`⌜⌝]+")
 DECLARES = re.compile(r"^\s*((?:abbrev |unfoldable |pub |record |data |syntax )*)([^\s(){}:;=,.]+) :(?: (.*))?$")
 # Names that join two names: the function on the left side of a lemma, a dash, and what it is applied to.
 HEADS = ("length", "get_or", "drop", "take")

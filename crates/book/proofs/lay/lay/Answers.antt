@@ -18,9 +18,9 @@ returns c =
     record {
       after =
           four_parts at (le32 (length bytes)) bytes hidden (packed flags (flag_length (parameters_of bytes))) old c.put.new.memory.now c.put-2.new.memory.now third
-          c.put-flags.new.memory.now (omega arith) refl (c.put.ensures.after ∙ ap (λ z. wrote at z old) c.to-le-bytes.ensures) c.put-2.ensures.after
+          c.put_flags.new.memory.now (omega arith) refl (c.put.ensures.after ∙ ap (λ z. wrote at z old) c.to_le_bytes.ensures) c.put-2.ensures.after
           c.put-3.ensures.after
-          (c.put-flags.ensures.after
+          (c.put_flags.ensures.after
           ∙ ap (λ n. wrote (at + 4 + length bytes + length hidden) (packed flags n) third) (c.flag_length.ensures ∙ ap flag_length c.requires.header));
-      same = c.put-flags.ensures.same ∙ c.put-3.ensures.same ∙ c.put-2.ensures.same ∙ c.put.ensures.same;
+      same = c.put_flags.ensures.same ∙ c.put-3.ensures.same ∙ c.put-2.ensures.same ∙ c.put.ensures.same;
     }

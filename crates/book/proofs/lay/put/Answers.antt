@@ -7,5 +7,5 @@ returns c =
     let at = c.args.at in
     let old = c.args.memory.now.now in
     let bytes = c.args.bytes.now in
-    let after = put_wrote at _ old c.copy-from-slice.new.self bytes c.copy-from-slice.ensures.after (omega arith) in
+    let after = put_wrote at _ old c.copy_from_slice.new.self bytes c.copy_from_slice.ensures.after (omega arith) in
     record { after = after; long = ap length after ∙ length-wrote at bytes old c.requires; same = refl }

@@ -5,8 +5,8 @@ use Rattle.std.proofs.lemmas.List.{take_all}
 use Rattle.std.proofs.lemmas.List.Sums.{sum_by_more}
 use Rattle.challenge.proofs.flags.count_bits.Goals as goal
 
-pub overflow-add-sum : goal.overflow-add-sum
-overflow-add-sum c =
+pub overflow_add-sum : goal.overflow_add-sum
+overflow_add-sum c =
     let h : ones (get_or c.args.bytes.now c.loop-b.b-index 0) ≤ 8 = ones-le 8 (get_or c.args.bytes.now c.loop-b.b-index 0) (search rules) in
     search rules
 

@@ -6,7 +6,7 @@ use Rattle.challenge.proofs.flags.pack.Goals as goal
 
 pub loop-b-preserved : goal.loop-b-preserved
 loop-b-preserved c = λ k h.
-    ap (λ v. get_or (set c.loop-b.out c.loop-b.b v) k 0) c.flag-byte.ensures
+    ap (λ v. get_or (set c.loop-b.out c.loop-b.b v) k 0) c.flag_byte.ensures
     ∙ fill_by_more (λ b. bits c.args.flags.now (8 * b) 8) c.loop-b.out c.loop-b.b 0 (omega arith) c.loop-b.invariant k h
 
 pub returns : goal.returns

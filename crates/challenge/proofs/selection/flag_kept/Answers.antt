@@ -22,7 +22,7 @@ loop-k-preserved g c =
     let s = o.first (short_bytes c.args.salt.now) (short_bytes c.args.d1.now) in
     let k = c.loop-k.k in
     let r = filled_ok c.next.result (g.C.Challenger.answers c.next.new.self) 8 (replicate 8 0) c.next.new.out c.loop-k.invariant.1 (omega arith) refl (search rules) c.next.ensures.answer c.next.ensures.effect in
-    let x = number_is s (8 * k) c.from-le-bytes.result c.next.new.out r.1 c.from-le-bytes.ensures in (
+    let x = number_is s (8 * k) c.from_le_bytes.result c.next.new.out r.1 c.from_le_bytes.ensures in (
       c.keep.ensures ∙ picks_more (λ i. little s (8 * i) 8) _ _ k _ c.loop-k.flags c.loop-k.invariant.0 x,
       (let e : 8 * k + 8 ≡ 8 * (k + 1) = omega arith in subst (λ u. Reading s u o (g.C.Challenger.answers c.next.new.self)) e r.2),
     )

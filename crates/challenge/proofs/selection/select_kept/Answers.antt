@@ -13,12 +13,12 @@ returns g c =
     let p = parameters c.args.header in
     let s = (g.C.Challenger.answers c.args.challenger.now).first (short_bytes c.args.salt.now) (short_bytes c.args.d1.now) in
     let long : length c.args.flags.now ≡ c.args.header.m = omega arith in
-    let is : c.flag-kept.new.flags ≡ selected s c.args.header.m (sigma p) = c.flag-kept.ensures.flags ∙ (λ z. selected s (long z) (c.kept.ensures z)) in
+    let is : c.flag_kept.new.flags ≡ selected s c.args.header.m (sigma p) = c.flag_kept.ensures.flags ∙ (λ z. selected s (long z) (c.kept.ensures z)) in
     let low : sigma p ≤ c.args.header.m = omega arith in
     let picked = selected_picked s c.args.header.m (sigma p) low in
     record {
       answer = search rules;
       flags = is;
-      asked = c.flag-kept.ensures.same;
+      asked = c.flag_kept.ensures.same;
       chosen = (subst Plain (sym is) picked.flag, ap ones is ∙ picked.many);
     }

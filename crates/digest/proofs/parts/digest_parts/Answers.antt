@@ -12,9 +12,9 @@ returns-in-Err g c = record {
 
 pub returns : goal.returns
 returns g c =
-    let drew = first_draw (g.D.DigestMaker.means c.draw-drawn.new.self) c.draw-drawn.result c.args.out.now c.draw-drawn.new.out c.in-default.ensures.holds c.draw-drawn.auto.out c.draw-drawn.ensures.answer c.draw-drawn.ensures.effect in
+    let drew = first_draw (g.D.DigestMaker.means c.draw-drawn.new.self) c.draw-drawn.result c.args.out.now c.draw-drawn.new.out c.in_default.ensures.holds c.draw-drawn.auto.out c.draw-drawn.ensures.answer c.draw-drawn.ensures.effect in
     record {
-      answer = then_drawn (length (text_of c.args.parts.now)) (length c.args.out.now) c.draw-drawn.result c.in-default.ensures.answer drew.0;
+      answer = then_drawn (length (text_of c.args.parts.now)) (length c.args.out.now) c.draw-drawn.result c.in_default.ensures.answer drew.0;
       out = drew.1;
       begun = c.begin-2.ensures;
     }

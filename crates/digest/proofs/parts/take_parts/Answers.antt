@@ -9,7 +9,7 @@ returns-in-Err g c = record {
 
 pub loop-part-preserved : goal.loop-part-preserved
 loop-part-preserved g c =
-    one_more c.args.parts.now c.loop-part.part-index _ c.loop-part-test.true c.loop-part.invariant.0 c.in-default.ensures.answer c.in-default.ensures.effect
+    one_more c.args.parts.now c.loop-part.part-index _ c.loop-part-test.true c.loop-part.invariant.0 c.in_default.ensures.answer c.in_default.ensures.effect
 
 pub returns : goal.returns
 returns g c =

@@ -8,6 +8,6 @@ returns c = record {
   out = λ l h.
       let e : 0 * length c.args.out.now + l ≡ l = omega arith in
       let row = c.args.row.now in
-      ap (at c.multiply-row.new.out) (sym e) ∙ c.multiply-row.ensures.fresh l h
+      ap (at c.multiply_row.new.out) (sym e) ∙ c.multiply_row.ensures.fresh l h
       ∙ ap (λ k. row_entry 32768 (length row) row c.args.columns.now (at c.args.errors.now k) l) e;
 }

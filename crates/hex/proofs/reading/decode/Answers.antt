@@ -7,40 +7,40 @@ use Rattle.hex.proofs.reading.decode.Goals as goal
 pub loop-k-init : goal.loop-k-init
 loop-k-init c = rw c.new-bytes.ensures.items (read_none c.args.text.now)
 
-pub returns-in-err-high : goal.returns-in-err-high
-returns-in-err-high c =
+pub returns-in_err-high : goal.returns-in_err-high
+returns-in_err-high c =
     let text = c.args.text.now in
-    let p = err_from_is_err_and c.from-residual.result c.from-residual.ensures.1 in
-    let h = c.in-err-high.ensures in
+    let p = err_from_is_err_and c.from_residual.result c.from_residual.ensures.1 in
+    let h = c.in_err-high.ensures in
     rw (p.1, p.2, h.1) (inr (stopped text (vec_items c.loop-k.bytes) (2 * c.loop-k.k) (omega arith) h.0 c.loop-k.invariant))
 
-pub returns-in-err-low : goal.returns-in-err-low
-returns-in-err-low c =
+pub returns-in_err-low : goal.returns-in_err-low
+returns-in_err-low c =
     let text = c.args.text.now in
-    let p = err_from_is_err_and c.from-residual-in-err-low.result c.from-residual-in-err-low.ensures.1 in
-    let h = c.in-err-low.ensures in
+    let p = err_from_is_err_and c.from_residual-in_err-low.result c.from_residual-in_err-low.ensures.1 in
+    let h = c.in_err-low.ensures in
     rw (p.1, p.2, h.1)
-    (inr (stopped_next text (vec_items c.loop-k.bytes) (2 * c.loop-k.k) c.in-ok-high.high (omega arith) c.in-ok-high.ensures.0 h.0 c.loop-k.invariant))
+    (inr (stopped_next text (vec_items c.loop-k.bytes) (2 * c.loop-k.k) c.in_ok-high.high (omega arith) c.in_ok-high.ensures.0 h.0 c.loop-k.invariant))
 
 pub loop-k-preserved : goal.loop-k-preserved
 loop-k-preserved c =
     let text = c.args.text.now in
     let bs = vec_items c.loop-k.bytes in
-    let h = c.in-ok-high.high in
-    let l = c.in-ok-low.low in
+    let h = c.in_ok-high.high in
+    let l = c.in_ok-low.low in
     let ok : is_ok c.push.result ≡ true = search rules in
     let pushed : vec_items c.push.new.self ≡ bs ++ (16 * h + l) ∷ [] = c.push.ensures.items ∙ cond-true (is_ok c.push.result) (bs ++ (16 * h + l) ∷ []) bs ok in
     let on : 2 * c.loop-k.k + 1 + 1 ≡ 2 * (c.loop-k.k + 1) = omega arith in
     subst (λ xs. Read text xs (2 * (c.loop-k.k + 1))) (sym pushed)
     (subst (Read text (bs ++ (16 * h + l) ∷ [])) on
-    (read_more text bs (2 * c.loop-k.k) h l (omega arith) c.in-ok-high.ensures.0 c.in-ok-low.ensures.0 c.loop-k.invariant))
+    (read_more text bs (2 * c.loop-k.k) h l (omega arith) c.in_ok-high.ensures.0 c.in_ok-low.ensures.0 c.loop-k.invariant))
 
-pub returns-in-err-value-at : goal.returns-in-err-value-at
-returns-in-err-value-at c =
+pub returns-in_err-value_at : goal.returns-in_err-value_at
+returns-in_err-value_at c =
     let text = c.args.text.now in
     let bs = vec_items c.loop-k.bytes in
-    let p = err_from_is_err_and c.from-residual-in-err-value-at.result c.from-residual-in-err-value-at.ensures.1 in
-    let h = c.in-err-value-at.ensures in
+    let p = err_from_is_err_and c.from_residual-in_err-value_at.result c.from_residual-in_err-value_at.ensures.1 in
+    let h = c.in_err-value_at.ensures in
     let last : 2 * c.loop-k.k ≡ length text - 1 = omega arith in
     rw (p.1, p.2, h.1) (inr (stopped text bs (length text - 1) (omega arith) h.0 (subst (Read text bs) last c.loop-k.invariant)))
 
@@ -49,7 +49,7 @@ returns-then-text-eq1 c =
     let text = c.args.text.now in
     let bs = vec_items c.loop-k.bytes in
     let last : 2 * c.loop-k.k ≡ length text - 1 = omega arith in
-    inr (odd_end text bs (length text - 1) c.in-ok-value-at.field-0 (omega arith) c.in-ok-value-at.ensures.0 (subst (Read text bs) last c.loop-k.invariant))
+    inr (odd_end text bs (length text - 1) c.in_ok-value_at.field-0 (omega arith) c.in_ok-value_at.ensures.0 (subst (Read text bs) last c.loop-k.invariant))
 
 pub returns : goal.returns
 returns c = read_all c.args.text.now (vec_items c.loop-k.bytes) (2 * c.loop-k.k) (omega arith) c.loop-k.invariant

@@ -17,7 +17,7 @@ returns c =
     let bytes = c.args.bytes.now in
     let block = c.args.block.now in
     let room = length block - c.args.filled in
-    let gone = c.absorb-blocks-whole.result in
+    let gone = c.absorb_blocks-whole.result in
     let head = take (room - 0) bytes in
     let rest = take (length bytes - room) (drop room bytes) in
     let left = take (length rest - gone) (drop gone rest) in
@@ -28,8 +28,8 @@ returns c =
     record {
       held = omega arith;
       same = λ x.
-          ap (λ k. sponge (length block) c.absorb-blocks-whole.new.lanes (take k c.put-3.new.out ++ x)) (sym l)
-          ∙ many_taken c.args.lanes.now c.absorb.new.lanes c.absorb-blocks-whole.new.lanes block head rest left c.put-2.new.out c.put-3.new.out bytes x
-          c.args.filled gone (omega arith) (omega arith) parts c.put-2.ensures (omega arith) c.absorb.ensures c.absorb-blocks-whole.ensures.same
+          ap (λ k. sponge (length block) c.absorb_blocks-whole.new.lanes (take k c.put-3.new.out ++ x)) (sym l)
+          ∙ many_taken c.args.lanes.now c.absorb.new.lanes c.absorb_blocks-whole.new.lanes block head rest left c.put-2.new.out c.put-3.new.out bytes x
+          c.args.filled gone (omega arith) (omega arith) parts c.put-2.ensures (omega arith) c.absorb.ensures c.absorb_blocks-whole.ensures.same
           (take_rest rest gone) c.put-3.ensures;
     }

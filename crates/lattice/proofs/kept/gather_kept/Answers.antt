@@ -16,13 +16,13 @@ bounds-out-filled c =
     let h = roomy c.args.flags.now c.args.out.now c.loop-k.k c.loop-k.filled c.requires.room c.loop-k.invariant.0 c.loop-k-test.true c.if-flags-k-eq1.true in
     omega arith
 
-pub offset-bounds-out-filled : goal.offset-bounds-out-filled
-offset-bounds-out-filled c =
+pub offset_bounds-out-filled : goal.offset_bounds-out-filled
+offset_bounds-out-filled c =
     let h = roomy c.args.flags.now c.args.out.now c.loop-k.k c.loop-k.filled c.requires.room c.loop-k.invariant.0 c.loop-k-test.true c.if-flags-k-eq1.true in
     search rules
 
-pub overflow-add-filled : goal.overflow-add-filled
-overflow-add-filled c =
+pub overflow_add-filled : goal.overflow_add-filled
+overflow_add-filled c =
     let h = roomy c.args.flags.now c.args.out.now c.loop-k.k c.loop-k.filled c.requires.room c.loop-k.invariant.0 c.loop-k-test.true c.if-flags-k-eq1.true in
     search rules
 

@@ -7,11 +7,11 @@ use Rattle.lattice.specs.Sets.{number}
 use Rattle.lattice.proofs.Dots.{line_in, row_made, entry_more, entry_kept}
 use Rattle.lattice.proofs.product.multiply_row.Goals as goal
 
-pub offset-bounds-columns-l : goal.offset-bounds-columns-l
-offset-bounds-columns-l c = let h = line_in c.loop-l.l (length c.args.row.now) c.args.c c.loop-l-test.true in search rules
+pub offset_bounds-columns-l : goal.offset_bounds-columns-l
+offset_bounds-columns-l c = let h = line_in c.loop-l.l (length c.args.row.now) c.args.c c.loop-l-test.true in search rules
 
-pub slice-bounds-inner-end : goal.slice-bounds-inner-end
-slice-bounds-inner-end c = let h = line_in c.loop-l.l (length c.args.row.now) c.args.c c.loop-l-test.true in search rules
+pub slice_bounds-inner-end : goal.slice_bounds-inner-end
+slice_bounds-inner-end c = let h = line_in c.loop-l.l (length c.args.row.now) c.args.c c.loop-l-test.true in search rules
 
 pub loop-l-preserved : goal.loop-l-preserved
 loop-l-preserved c =

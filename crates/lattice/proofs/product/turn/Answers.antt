@@ -5,14 +5,14 @@ use Rattle.lattice.specs.Lines.{at}
 use Rattle.lattice.proofs.Dots.{line_in, entry_more}
 use Rattle.lattice.proofs.product.turn.Goals as goal
 
-pub offset-bounds-s-t : goal.offset-bounds-s-t
-offset-bounds-s-t c = let h = mul-add-lt c.loop-t.t c.args.c c.down.l c.args.n c.loop-t-test.true c.down-test.true in search rules
+pub offset_bounds-s-t : goal.offset_bounds-s-t
+offset_bounds-s-t c = let h = mul-add-lt c.loop-t.t c.args.c c.down.l c.args.n c.loop-t-test.true c.down-test.true in search rules
 
 pub bounds-s-t : goal.bounds-s-t
 bounds-s-t c = omega (arith, mul-add-lt c.loop-t.t c.args.c c.down.l c.args.n c.loop-t-test.true c.down-test.true)
 
-pub offset-bounds-columns-l : goal.offset-bounds-columns-l
-offset-bounds-columns-l c = let h = mul-add-lt c.down.l c.args.n c.loop-t.t c.args.c c.down-test.true c.loop-t-test.true in search rules
+pub offset_bounds-columns-l : goal.offset_bounds-columns-l
+offset_bounds-columns-l c = let h = mul-add-lt c.down.l c.args.n c.loop-t.t c.args.c c.down-test.true c.loop-t-test.true in search rules
 
 pub bounds-columns-l : goal.bounds-columns-l
 bounds-columns-l c = omega (arith, mul-add-lt c.down.l c.args.n c.loop-t.t c.args.c c.down-test.true c.loop-t-test.true)

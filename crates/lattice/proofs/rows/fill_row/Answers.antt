@@ -9,6 +9,6 @@ use Rattle.lattice.proofs.rows.fill_row.Goals as goal
 
 pub returns : goal.returns
 returns c =
-    c.read-residues.ensures
-    ∙ pairs_of_front (modulus (number c.args.set)) (shake128 (le16 c.args.i ++ c.args.seed.now)) c.row-bytes.new.bytes
-    (length c.args.row.now) (c.row-bytes.ensures ∙ ap (first_bytes (shake128 (le16 c.args.i ++ c.args.seed.now))) c.requires)
+    c.read_residues.ensures
+    ∙ pairs_of_front (modulus (number c.args.set)) (shake128 (le16 c.args.i ++ c.args.seed.now)) c.row_bytes.new.bytes
+    (length c.args.row.now) (c.row_bytes.ensures ∙ ap (first_bytes (shake128 (le16 c.args.i ++ c.args.seed.now))) c.requires)

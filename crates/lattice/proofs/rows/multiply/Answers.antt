@@ -10,10 +10,10 @@ use Rattle.lattice.specs.Sets.{number}
 use Rattle.lattice.proofs.Dots.{line_in, row_is, lines_more, part_of}
 use Rattle.lattice.proofs.rows.multiply.Goals as goal
 
-pub multiply-row-requires : goal.multiply-row-requires
-multiply-row-requires c =
+pub multiply_row-requires : goal.multiply_row-requires
+multiply_row-requires c =
     let w = c.args.c in
-    let long : length c.matrix-row.new.row ≡ length c.args.row.now = omega arith in
+    let long : length c.matrix_row.new.row ≡ length c.args.row.now = omega arith in
     let wide : length c.turn.new.columns ≡ w * length c.args.row.now = omega arith in
     let h = line_in c.loop-i.i w (length c.args.row.now) c.loop-i-test.true in
     record { columns = wide ∙ ap (λ z. w * z) (sym long); errors = simp (length-take, length-drop) (omega arith); room = omega arith }
@@ -24,16 +24,16 @@ loop-i-preserved c =
     let n = length c.args.row.now in
     let w = c.args.c in
     let i = c.loop-i.i in
-    let row = c.matrix-row.new.row in
+    let row = c.matrix_row.new.row in
     let xs = c.args.secrets.now in
     let a = matrix shake128 q c.args.seed.now in
     let long : length row ≡ n = omega arith in
-    lines_more (product q n w a (at xs)) c.loop-i.out c.multiply-row.new.out i w c.multiply-row.ensures.before c.loop-i.invariant
+    lines_more (product q n w a (at xs)) c.loop-i.out c.multiply_row.new.out i w c.multiply_row.ensures.before c.loop-i.invariant
     (λ l h.
-    c.multiply-row.ensures.fresh l h
+    c.multiply_row.ensures.fresh l h
     ∙ ap (λ z. row_entry q z row c.turn.new.columns (at (take (2 * (n * w) - n * w) (drop (n * w) xs)) (i * w + l)) l) long
     ∙ row_is q n w a (at xs) row c.turn.new.columns i l _ h
-    (λ t k. ap (λ r. get_or r t 0) c.matrix-row.ensures ∙ get_or-map-range_with_len (a i) 0 _ t t 0 (omega arith) (omega arith))
+    (λ t k. ap (λ r. get_or r t 0) c.matrix_row.ensures ∙ get_or-map-range_with_len (a i) 0 _ t t 0 (omega arith) (omega arith))
     (λ t k. c.turn.ensures t l k h ∙ get_or-take (n * w - 0) xs (t * w + l) 0 (omega (arith, mul-add-lt t w l n k h)))
     (part_of xs (n * w) (2 * (n * w)) (i * w + l) (omega (arith, mul-add-lt i w l n c.loop-i-test.true h))))
 

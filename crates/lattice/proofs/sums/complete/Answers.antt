@@ -16,9 +16,9 @@ returns c =
     let p = c.args.party in
     let f : ℕ → ℕ → ℕ = λ k j. at c.args.rows.now (j * w + k) in
     let t : ℕ → ℕ = at c.args.whole.now in
-    fill_by_all (λ k. completed g n p (t k) (f k) p) c.subtract-from.new.part w 0 (omega arith)
+    fill_by_all (λ k. completed g n p (t k) (f k) p) c.subtract_from.new.part w 0 (omega arith)
     (λ k h.
-    ap (λ xs. at xs k) c.subtract-from.ensures
+    ap (λ xs. at xs k) c.subtract_from.ensures
     ∙ get_or-map-range_with_len _ 0 _ k k 0 (omega arith) (omega arith)
-    ∙ ap (λ x. g.sub (t k) x) (ap (λ xs. at xs k) c.sum-others.ensures ∙ get_or-map-range_with_len (λ i. others g n p (f i)) 0 w k k 0 h (omega arith))
+    ∙ ap (λ x. g.sub (t k) x) (ap (λ xs. at xs k) c.sum_others.ensures ∙ get_or-map-range_with_len (λ i. others g n p (f i)) 0 w k k 0 h (omega arith))
     ∙ sym (completed_here g n p (t k) (f k)))

@@ -11,5 +11,5 @@ pub returns : goal.returns
 returns c =
     let w = length c.args.sum.now in
     let n = c.args.parties in
-    c.sum-others.ensures
+    c.sum_others.ensures
     ∙ (λ i. map (λ k. others_all (modular (modulus (number c.args.set))) n n (λ j. at c.args.rows.now (j * w + k)) (le_refl n) i) (range_with_len 0 w))

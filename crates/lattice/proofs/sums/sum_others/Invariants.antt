@@ -8,4 +8,4 @@ use Rattle.lattice.proofs.sums.sum_others.Given as goal
 
 abbrev pub invariant-loop-j : goal.invariant-loop-j
 invariant-loop-j l =
-    (k : ℕ) → k < l.width → at l.sum k ≡ others (modular (modulus (number l.set))) l.j l.left-out (λ i. at l.rows (i * l.width + k))
+    (k : ℕ) → k < l.width → at l.sum k ≡ others (modular (modulus (number l.set))) l.j l.left_out (λ i. at l.rows (i * l.width + k))

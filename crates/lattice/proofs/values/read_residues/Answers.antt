@@ -9,6 +9,6 @@ use Rattle.lattice.proofs.values.read_residues.Goals as goal
 
 pub returns : goal.returns
 returns c =
-    c.reduce-all.ensures
-    ∙ ap (map (λ w. w % modulus (number c.args.set))) c.read-words.ensures
+    c.reduce_all.ensures
+    ∙ ap (map (λ w. w % modulus (number c.args.set))) c.read_words.ensures
     ∙ map-map (λ w. w % modulus (number c.args.set)) (stream_word (at c.args.bytes.now)) (range_with_len 0 (length c.args.out.now))

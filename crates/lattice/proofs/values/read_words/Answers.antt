@@ -12,7 +12,7 @@ loop-t-preserved c =
     below_more (λ k. at _ k ≡ stream_word (at bs) k) t
     (λ k h. get_or-set_other c.loop-t.out t k _ 0 (λ o. omega arith) ∙ c.loop-t.invariant k h)
     (get_or-set_same c.loop-t.out t _ 0 (omega arith)
-    ∙ c.from-le-bytes.ensures
+    ∙ c.from_le_bytes.ensures
     ∙ (let e : at bs (2 * t) + at bs (2 * t + 1) * 256 ≡ at bs (2 * t) + 256 * at bs (2 * t + 1) = omega arith in e))
 
 pub returns : goal.returns

@@ -9,11 +9,11 @@ use Rattle.lattice.proofs.values.sample.Goals as goal
 pub exceeded-size-requires : goal.exceeded-size-requires
 exceeded-size-requires c = omega (arith, ap length c.table.ensures, table_short c.args.set)
 
-pub overflow-cast-size : goal.overflow-cast-size
-overflow-cast-size c = let h = few c.args.set _ _ _ c.table.ensures c.exceeded-size.ensures in search rules
+pub overflow_cast-size : goal.overflow_cast-size
+overflow_cast-size c = let h = few c.args.set _ _ _ c.table.ensures c.exceeded-size.ensures in search rules
 
-pub overflow-sub-result : goal.overflow-sub-result
-overflow-sub-result c = let h = few c.args.set _ _ _ c.table.ensures c.exceeded-size.ensures in search rules
+pub overflow_sub-result : goal.overflow_sub-result
+overflow_sub-result c = let h = few c.args.set _ _ _ c.table.ensures c.exceeded-size.ensures in search rules
 
 pub returns-then-sign-eq1 : goal.returns-then-sign-eq1
 returns-then-sign-eq1 c =

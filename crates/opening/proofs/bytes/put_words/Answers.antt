@@ -12,7 +12,7 @@ loop-i-init c = sym (wrote_none c.args.at c.args.out.now)
 pub loop-i-preserved : goal.loop-i-preserved
 loop-i-preserved c =
     c.put.ensures
-    ∙ wrote_word c.args.at c.loop-i.i c.args.words.now c.to-le-bytes.result c.args.out.now c.loop-i.out (omega arith) c.to-le-bytes.ensures (omega arith) c.loop-i.invariant
+    ∙ wrote_word c.args.at c.loop-i.i c.args.words.now c.to_le_bytes.result c.args.out.now c.loop-i.out (omega arith) c.to_le_bytes.ensures (omega arith) c.loop-i.invariant
 
 pub returns : goal.returns
 returns c =

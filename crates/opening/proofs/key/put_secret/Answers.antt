@@ -9,6 +9,6 @@ use Rattle.opening.proofs.key.put_secret.Goals as goal
 
 pub returns : goal.returns
 returns c =
-    c.put-words.ensures
+    c.put_words.ensures
     ∙ ap (λ ws. wrote c.args.at (flat_map le16 ws) c.args.out.now)
-    (secret_first (parameters c.args.header) c.args.flags.now c.args.values.now c.gather-kept.new.out c.entries.result _ c.gather-kept.ensures c.entries.ensures (simp length-take (omega arith)))
+    (secret_first (parameters c.args.header) c.args.flags.now c.args.values.now c.gather_kept.new.out c.entries.result _ c.gather_kept.ensures c.entries.ensures (simp length-take (omega arith)))

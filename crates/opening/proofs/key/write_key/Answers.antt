@@ -5,5 +5,5 @@ use Rattle.opening.proofs.key.write_key.Goals as goal
 
 pub returns : goal.returns
 returns c =
-    wrote_key (parameters c.args.header) c.args.seed-a.now c.args.flags.now c.args.values.now _ c.args.out.now c.put-secret.new.out _ (omega arith)
-    c.put-secret.ensures c.put-public.ensures
+    wrote_key (parameters c.args.header) c.args.seed_a.now c.args.flags.now c.args.values.now _ c.args.out.now c.put_secret.new.out _ (omega arith)
+    c.put_secret.ensures c.put_public.ensures

@@ -13,6 +13,6 @@ returns c =
     let e = c.args.e in
     let b = block_length (parameters x) in
     let more : (e + 1) * b ≤ x.tau * b = mul-le (e + 1) b x.tau b (omega arith) (omega arith) in
-    residues_say c.test-residues.result c.part.result c.args.bytes.now (offset (parameters x) (Offsets e)) x.m c.modulus.result x.set
+    residues_say c.test_residues.result c.part.result c.args.bytes.now (offset (parameters x) (Offsets e)) x.m c.modulus.result x.set
     (lies_in c.part.result c.over-record.result c.args.bytes.now x (Offsets e) c.over-record.ensures.bytes c.over-record.ensures.header c.part.ensures)
-    (omega arith) (c.modulus.ensures ∙ ap modulus c.of.ensures) c.test-residues.ensures
+    (omega arith) (c.modulus.ensures ∙ ap modulus c.of.ensures) c.test_residues.ensures

@@ -9,6 +9,6 @@ use Rattle.ranges.proofs.body.test_values.Goals as goal
 pub returns : goal.returns
 returns c =
     let x = c.args.header in
-    audited_say c.test-audited.result c.part.result c.args.bytes.now (offset (parameters x) Audited) (x.m - sigma (parameters x)) _ x.set
+    audited_say c.test_audited.result c.part.result c.args.bytes.now (offset (parameters x) Audited) (x.m - sigma (parameters x)) _ x.set
     (lies_in c.part.result c.over-record.result c.args.bytes.now x Audited c.over-record.ensures.bytes c.over-record.ensures.header c.part.ensures)
-    (omega arith) (ap bound c.of.ensures) c.test-audited.ensures
+    (omega arith) (ap bound c.of.ensures) c.test_audited.ensures

@@ -8,16 +8,16 @@ use Rattle.ranges.proofs.parts.test_audited.Goals as goal
 
 pub loop-i-preserved : goal.loop-i-preserved
 loop-i-preserved c =
-    let fits : SFits w8 c.from-byte.result = search rules in
-    below_more _ _ c.loop-i.invariant (in_range_tells (bound (number c.args.set)) _ _ _ true fits c.from-byte.ensures c.in-range.ensures c.if-not-in-range.false)
+    let fits : SFits w8 c.from_byte.result = search rules in
+    below_more _ _ c.loop-i.invariant (in_range_tells (bound (number c.args.set)) _ _ _ true fits c.from_byte.ensures c.in_range.ensures c.if-not-in_range.false)
 
-pub returns-then-not-in-range : goal.returns-then-not-in-range
-returns-then-not-in-range c =
-    let fits : SFits w8 c.from-byte.result = search rules in
+pub returns-then-not-in_range : goal.returns-then-not-in_range
+returns-then-not-in_range c =
+    let fits : SFits w8 c.from_byte.result = search rules in
     let bytes = c.args.part.bytes.now in
     let b = bound (number c.args.set) in
     sym (first_fails (audited_test bytes c.args.part.offset b) (length bytes) c.loop-i.i (tt {0}) c.loop-i-test.true c.loop-i.invariant
-    (in_range_tells b _ _ _ false fits c.from-byte.ensures c.in-range.ensures c.if-not-in-range.true))
+    (in_range_tells b _ _ _ false fits c.from_byte.ensures c.in_range.ensures c.if-not-in_range.true))
 
 pub returns : goal.returns
 returns c =

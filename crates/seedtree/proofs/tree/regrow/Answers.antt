@@ -15,23 +15,23 @@ loop-t-init g c = (
       (seeds_of c.args.siblings.now c.args.header.h) c.args.nodes.now c.requires.hidden,
 )
 
-pub overflow-add-width : goal.overflow-add-width
-overflow-add-width g c =
+pub overflow_add-width : goal.overflow_add-width
+overflow_add-width g c =
     let f = level_fits c.loop-t-test.true (omega arith) c.requires.hidden c.loop-t.invariant.0 in
     omega arith
 
-pub split-level-requires : goal.split-level-requires
-split-level-requires g c =
+pub split_level-requires : goal.split_level-requires
+split_level-requires g c =
     let f = level_fits c.loop-t-test.true (omega arith) c.requires.hidden c.loop-t.invariant.0 in
     record { few = omega arith; room = omega arith }
 
-pub overflow-mul-width : goal.overflow-mul-width
-overflow-mul-width g c =
+pub overflow_mul-width : goal.overflow_mul-width
+overflow_mul-width g c =
     let f = level_fits c.loop-t-test.true (omega arith) c.requires.hidden c.loop-t.invariant.0 in
     omega arith
 
-pub overflow-add-width-in-loop-t : goal.overflow-add-width-in-loop-t
-overflow-add-width-in-loop-t g c =
+pub overflow_add-width-in-loop-t : goal.overflow_add-width-in-loop-t
+overflow_add-width-in-loop-t g c =
     let f = level_fits c.loop-t-test.true (omega arith) c.requires.hidden c.loop-t.invariant.0 in
     let b = beside_fits c.loop-t-test.true c.requires.hidden c.loop-t.invariant.0 c.other-beside.ensures in
     omega arith
@@ -53,8 +53,8 @@ loop-t-preserved g c =
     let t = c.loop-t.t in (
       twice_wide t c.loop-t.width c.loop-t.invariant.0,
       regrowing_more g.D.DigestMaker.function (short_bytes c.args.salt.now) c.args.e h c.args.hidden (seeds_of c.args.siblings.now h) t c.loop-t.width c.other-beside.result
-          _ c.loop-t.nodes c.split-level.new.nodes c.store.new.words c.loop-t-test.true c.loop-t.invariant.0 c.other-beside.ensures
-          (row_is c.args.siblings.now t h c.loop-t-test.true) c.loop-t.invariant.1 c.split-level.ensures c.store.ensures,
+          _ c.loop-t.nodes c.split_level.new.nodes c.store.new.words c.loop-t-test.true c.loop-t.invariant.0 c.other-beside.ensures
+          (row_is c.args.siblings.now t h c.loop-t-test.true) c.loop-t.invariant.1 c.split_level.ensures c.store.ensures,
     )
 
 pub returns : goal.returns

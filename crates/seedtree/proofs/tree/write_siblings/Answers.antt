@@ -11,13 +11,13 @@ use Rattle.seedtree.proofs.tree.write_siblings.Goals as goal
 pub loop-t-init : goal.loop-t-init
 loop-t-init c = (refl, refl)
 
-pub overflow-mul-width : goal.overflow-mul-width
-overflow-mul-width c =
+pub overflow_mul-width : goal.overflow_mul-width
+overflow_mul-width c =
     let f = level_fits c.loop-t-test.true (omega arith) c.requires.hidden c.loop-t.invariant.0 in
     omega arith
 
-pub overflow-add-width : goal.overflow-add-width
-overflow-add-width c =
+pub overflow_add-width : goal.overflow_add-width
+overflow_add-width c =
     let f = level_fits c.loop-t-test.true (omega arith) c.requires.hidden c.loop-t.invariant.0 in
     let b = beside_fits c.loop-t-test.true c.requires.hidden c.loop-t.invariant.0 c.other-beside.ensures in
     omega arith
@@ -41,9 +41,9 @@ loop-t-preserved c =
     let t = c.loop-t.t in
     let wide = twice_wide t c.loop-t.width c.loop-t.invariant.0 in (
       wide,
-      row_more (seed_in nodes) (sibling_node c.args.header.h c.args.hidden) t c.loop-t.out c.copy-from-slice.new.self (omega arith)
-          (ap length c.copy-from-slice.ensures.after ∙ c.load.array_long)
-          (c.copy-from-slice.ensures.after ∙ c.load.ensures ∙ (λ z. seed_in nodes (wide z + c.other-beside.ensures z)))
+      row_more (seed_in nodes) (sibling_node c.args.header.h c.args.hidden) t c.loop-t.out c.copy_from_slice.new.self (omega arith)
+          (ap length c.copy_from_slice.ensures.after ∙ c.load.array_long)
+          (c.copy_from_slice.ensures.after ∙ c.load.ensures ∙ (λ z. seed_in nodes (wide z + c.other-beside.ensures z)))
           c.loop-t.invariant.1,
     )
 

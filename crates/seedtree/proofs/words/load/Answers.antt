@@ -9,7 +9,7 @@ use Rattle.seedtree.proofs.words.load.Goals as goal
 pub loop-i-preserved : goal.loop-i-preserved
 loop-i-preserved c = (
   simp length-set c.loop-i.invariant.0,
-  loaded_more c.args.words.now c.loop-i.seed (16 * c.args.k) c.loop-i.i c.to-le-bytes.result (omega arith) (omega arith) c.to-le-bytes.ensures c.loop-i.invariant.1,
+  loaded_more c.args.words.now c.loop-i.seed (16 * c.args.k) c.loop-i.i c.to_le_bytes.result (omega arith) (omega arith) c.to_le_bytes.ensures c.loop-i.invariant.1,
 )
 
 pub returns : goal.returns

@@ -8,7 +8,7 @@ use Rattle.seedtree.proofs.words.store.Goals as goal
 
 pub loop-i-preserved : goal.loop-i-preserved
 loop-i-preserved c = (
-  stored_more c.loop-i.words c.args.seed.now (16 * c.args.k) c.loop-i.i c.from-le-bytes.result (omega arith) (omega arith) (λ k. omega (arith, c.type-inv.seed k)) c.from-le-bytes.ensures c.loop-i.invariant.0,
+  stored_more c.loop-i.words c.args.seed.now (16 * c.args.k) c.loop-i.i c.from_le_bytes.result (omega arith) (omega arith) (λ k. omega (arith, c.type_inv.seed k)) c.from_le_bytes.ensures c.loop-i.invariant.0,
   λ j not. stored_elsewhere c.loop-i.words c.args.k c.loop-i.i _ j (omega arith) not ∙ c.loop-i.invariant.1 j not,
 )
 

@@ -12,7 +12,7 @@ pub loop-t-preserved : goal.loop-t-preserved
 loop-t-preserved c =
     let long : length c.loop-t.words ≡ 80 = c.loop-t.invariant.0 in (
       simp length-set (omega arith),
-      schedule_more c.args.block.now c.loop-t.words c.loop-t.t c.schedule-word.result (omega arith) c.schedule-word.ensures c.loop-t.invariant.1,
+      schedule_more c.args.block.now c.loop-t.words c.loop-t.t c.schedule_word.result (omega arith) c.schedule_word.ensures c.loop-t.invariant.1,
     )
 
 pub returns : goal.returns

@@ -6,7 +6,7 @@ use Rattle.sha512.proofs.hash.sha512.Goals as goal
 
 pub returns : goal.returns
 returns c =
-    c.word-bytes.ensures
+    c.word_bytes.ensures
     ∙ ap word_bytes (c.finish-words.ensures
     ∙ ended_more c.new-hasher.result c.take.new.self c.args.text.now [] c.take.ensures.words (omega (arith, c.take.ensures.total, c.new-hasher.ensures.total))
     ∙ ended_new c.new-hasher.result _ c.new-hasher.ensures.words c.new-hasher.ensures.total

@@ -12,7 +12,7 @@ pub loop-k-preserved : goal.loop-k-preserved
 loop-k-preserved c =
     let long : length c.loop-k.bytes ≡ 64 = c.loop-k.invariant.0 in (
       simp length-set (omega arith),
-      (λ j h. ap (λ b. get_or (set c.loop-k.bytes c.loop-k.k b) j 0) c.byte-of.ensures
+      (λ j h. ap (λ b. get_or (set c.loop-k.bytes c.loop-k.k b) j 0) c.byte_of.ensures
           ∙ fill_by_more (byte_of c.args.words.now) c.loop-k.bytes c.loop-k.k 0 (omega arith) c.loop-k.invariant.1 j h),
     )
 

@@ -7,8 +7,8 @@ use Rattle.sha512.proofs.stretched.stream_block.Goals as goal
 
 pub returns : goal.returns
 returns c =
-    let four : length c.to-be-bytes.result ≡ 4 = ap length c.to-be-bytes.ensures in
-    c.word-bytes.ensures
+    let four : length c.to_be_bytes.result ≡ 4 = ap length c.to_be_bytes.ensures in
+    c.word_bytes.ensures
     ∙ ap word_bytes (c.finish-words.ensures
-    ∙ ended_more c.args.hasher.now c.take.new.self c.to-be-bytes.result [] c.take.ensures.words (omega (arith, c.take.ensures.total, c.requires.room))
-    ∙ ap (ended c.args.hasher.now) (append-nil c.to-be-bytes.result ∙ c.to-be-bytes.ensures))
+    ∙ ended_more c.args.hasher.now c.take.new.self c.to_be_bytes.result [] c.take.ensures.words (omega (arith, c.take.ensures.total, c.requires.room))
+    ∙ ap (ended c.args.hasher.now) (append-nil c.to_be_bytes.result ∙ c.to_be_bytes.ensures))

@@ -11,9 +11,9 @@ use Rattle.shares.proofs.audited.residue_at.Goals as goal
 pub returns-then-i-bytes : goal.returns-then-i-bytes
 returns-then-i-bytes c =
     let q = modulus (number c.args.set) in
-    let fits : SFits w8 c.from-byte.result = search rules in
+    let fits : SFits w8 c.from_byte.result = search rules in
     c.residue.ensures
-    ∙ ap (residue q) (to_z-of_z w8 c.from-byte.result fits ∙ c.from-byte.ensures ∙ sym (get_or-map signed c.args.bytes.now c.args.i 0 (pos 0) c.if-i-bytes.true))
+    ∙ ap (residue q) (to_z-of_z w8 c.from_byte.result fits ∙ c.from_byte.ensures ∙ sym (get_or-map signed c.args.bytes.now c.args.i 0 (pos 0) c.if-i-bytes.true))
 
 pub returns-else-i-bytes : goal.returns-else-i-bytes
 returns-else-i-bytes c =

@@ -20,8 +20,8 @@ few flags (suc k) =
       | inr t ↦ omega (arith, few flags k, cond-false _ (audited_before flags k) (audited_before flags k + 1) t)
     ]
 
-pub overflow-add-next : goal.overflow-add-next
-overflow-add-next c = omega (arith, few c.args.flags.now c.loop-k.k)
+pub overflow_add-next : goal.overflow_add-next
+overflow_add-next c = omega (arith, few c.args.flags.now c.loop-k.k)
 
 kept_more : (flags : List ℕ) (k : ℕ) → get_or flags k 0 ≡ 1 → audited_before flags (k + 1) ≡ audited_before flags k
 kept_more flags k e = ap (audited_before flags) (add-one k) ∙ cond-true _ _ _ (eq-eqb (get_or flags k 0) 1 e)
@@ -40,7 +40,7 @@ loop-k-preserved c =
       ],
       below_more _ k
           (λ i q. get_or-set_other values k i _ 0 (λ o. omega arith) ∙ c.loop-k.invariant.1 i q)
-          (get_or-set_same values k _ 0 (omega arith) ∙ c.residue-at.ensures ∙ ap (λ n. residue (modulus (number c.of-set.result)) (get_or (map signed c.args.bytes.now) n (pos 0))) c.loop-k.invariant.0),
+          (get_or-set_same values k _ 0 (omega arith) ∙ c.residue_at.ensures ∙ ap (λ n. residue (modulus (number c.of-set.result)) (get_or (map signed c.args.bytes.now) n (pos 0))) c.loop-k.invariant.0),
     )
 
 pub returns : goal.returns

@@ -18,7 +18,7 @@ returns g c =
     let front : out ≡ first_bytes s (2 * n) = drew.bytes ∙ ap (first_bytes s) (let e : length out ≡ 2 * n = omega arith in e) in
     record {
       words =
-          c.read-words.ensures
+          c.read_words.ensures
           ∙ fill_by_all (stream_word s) (map (stream_word (at out)) (range_with_len 0 n)) n 0 (length-map-range_with_len (stream_word (at out)) 0 n)
           (λ k h. get_or-map-range_with_len (stream_word (at out)) 0 n k k 0 h (omega arith) ∙ word_of_front s out n k front h);
       maker = drew_advanced m _ out (2 * n) (omega arith) drew;

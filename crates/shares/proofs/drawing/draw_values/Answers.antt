@@ -20,11 +20,11 @@ unfolding value_residues value
 returns g c =
     let F = g.D.DigestMaker.function in
     let set = c.args.header.set in
-    let s : ℕ → ℕ = (g.D.DigestMaker.means c.take-text.new.maker).rule [] in
+    let s : ℕ → ℕ = (g.D.DigestMaker.means c.take_text.new.maker).rule [] in
     let master = c.args.master.now in
     let stream : s ≡ F (1 ∷ (short_bytes c.args.salt.now ++ master)) =
-    holding_stream c.take-text.ensures ∙ (λ i. F (1 ∷ (c.as-slice.ensures.bytes i ++ append-nil master i))) in
-    c.sample-all.ensures
-    ∙ (λ i. map (value (c.of.ensures i)) (c.draw-words.ensures i))
+    holding_stream c.take_text.ensures ∙ (λ i. F (1 ∷ (c.as_slice.ensures.bytes i ++ append-nil master i))) in
+    c.sample_all.ensures
+    ∙ (λ i. map (value (c.of.ensures i)) (c.draw_words.ensures i))
     ∙ map-map (value set) (stream_word s) (range_with_len 0 (length c.args.values.now))
     ∙ (λ i. map (λ k. value set (stream_word (stream i) k)) (range_with_len 0 (c.requires i)))

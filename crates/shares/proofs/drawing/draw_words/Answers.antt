@@ -19,11 +19,11 @@ loop-at-preserved g c =
     let le : at + n ≤ length words = search rules in
     let long = part_long words at n le in (
       search rules,
-      filled_more (stream_word (m.rule [])) (stream_word (m'.rule [])) at n (at + n) words c.draw-by.new.words refl le c.loop-at.invariant.1
-          (c.draw-by.ensures.words ∙ ap (λ l. map (stream_word (m'.rule [])) (range_with_len 0 l)) long)
+      filled_more (stream_word (m.rule [])) (stream_word (m'.rule [])) at n (at + n) words c.draw_by.new.words refl le c.loop-at.invariant.1
+          (c.draw_by.ensures.words ∙ ap (λ l. map (stream_word (m'.rule [])) (range_with_len 0 l)) long)
           (λ k q. word_further m m' at k c.loop-at.invariant.2),
       advanced_both (2 * at) (2 * n) (2 * (at + n)) m m' _ (omega arith) c.loop-at.invariant.2
-          (subst (λ l. Advanced (2 * l) m' (g.D.DigestMaker.means c.draw-by.new.maker)) long c.draw-by.ensures.maker),
+          (subst (λ l. Advanced (2 * l) m' (g.D.DigestMaker.means c.draw_by.new.maker)) long c.draw_by.ensures.maker),
     )
 
 pub returns : goal.returns

@@ -8,11 +8,11 @@ use Rattle.shares.specs.Shown.{found, product_of}
 use Rattle.shares.proofs.Products.{ready_product, took_row, row_at, subtracted_row}
 use Rattle.shares.proofs.party.take_found.Goals as goal
 
-pub take-words-requires : goal.take-words-requires
-take-words-requires g c =
+pub take_words-requires : goal.take_words-requires
+take_words-requires g c =
     let p = parameters c.args.header in
-    let shares = c.subtract-from.new.part in
-    let ready = ready_product _ _ (length shares) (p.n * p.c) c.args.flags.now (at shares) (omega arith) (omega arith) c.requires.ready c.take-audited.ensures in
+    let shares = c.subtract_from.new.part in
+    let ready = ready_product _ _ (length shares) (p.n * p.c) c.args.flags.now (at shares) (omega arith) (omega arith) c.requires.ready c.take_audited.ensures in
     (ready.0, omega (arith, ready.1))
 
 pub returns : goal.returns
@@ -25,14 +25,14 @@ returns g c =
     let key = at c.args.key.now in
     let sums = at c.args.sums.now in
     let v : ℕ → ℕ = λ k. (modular q).sub (values k) (sums k) in
-    let f : ℕ → ℕ = λ i. (modular q).sub (key i) (product_of p c.args.seed-a.now flags sums i) in
-    let shares = c.subtract-from.new.part in
-    let sum = c.copy-from-slice.new.self in
+    let f : ℕ → ℕ = λ i. (modular q).sub (key i) (product_of p c.args.seed_a.now flags sums i) in
+    let shares = c.subtract_from.new.part in
+    let sum = c.copy_from_slice.new.self in
     let long : length shares ≡ p.m = omega arith in
     took_row _ _ _ p.m (length shares) (p.n * p.c) flags (at shares) v f _ long
     (λ k r.
-    row_at (λ k. (modular (modulus (number c.of-set.result))).sub (values k) (at sum k)) (length sum) k shares c.subtract-from.ensures (omega arith)
-    ∙ (λ i. (modular (modulus (c.of-set.ensures i))).sub (values k) (at (c.copy-from-slice.ensures.after i) k)))
-    c.take-audited.ensures
-    (subtracted_row _ p.set (p.n * p.c) c.args.key.now c.share-product.new.product _ (product_of p c.args.seed-a.now flags sums) c.of-set.ensures c.share-product.ensures c.subtract-from-2.ensures)
-    c.take-words.ensures
+    row_at (λ k. (modular (modulus (number c.of-set.result))).sub (values k) (at sum k)) (length sum) k shares c.subtract_from.ensures (omega arith)
+    ∙ (λ i. (modular (modulus (c.of-set.ensures i))).sub (values k) (at (c.copy_from_slice.ensures.after i) k)))
+    c.take_audited.ensures
+    (subtracted_row _ p.set (p.n * p.c) c.args.key.now c.share_product.new.product _ (product_of p c.args.seed_a.now flags sums) c.of-set.ensures c.share_product.ensures c.subtract_from-2.ensures)
+    c.take_words.ensures

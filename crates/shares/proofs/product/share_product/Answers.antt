@@ -11,14 +11,14 @@ use Rattle.shares.proofs.product.share_product.Goals as goal
 
 pub returns : goal.returns
 returns c =
-    let seed_a = c.args.seed-a.now in
-    let kept : List ℕ = c.gather-kept.new.out in
+    let seed_a = c.args.seed_a.now in
+    let kept : List ℕ = c.gather_kept.new.out in
     let v : ℕ → ℕ = at c.args.shares.now in
     let flags = c.args.flags.now in
     let columns = c.args.header.c in
     c.multiply.ensures
     ∙ (λ i.
-    let q = modulus (c.of.ensures i) in let n = c.cut-bench-kept.ensures.row i in
+    let q = modulus (c.of.ensures i) in let n = c.cut_bench-kept.ensures.row i in
     map (product q n columns (matrix shake128 q seed_a) (at kept)) (range_with_len 0 (n * columns)))
     ∙ product_kept (parameters c.args.header) seed_a flags kept v
-    (c.gather-kept.ensures ∙ ap (λ n. map (λ m. v (kept_index flags m)) (range_with_len 0 n)) c.cut-bench-kept.ensures.kept)
+    (c.gather_kept.ensures ∙ ap (λ n. map (λ m. v (kept_index flags m)) (range_with_len 0 n)) c.cut_bench-kept.ensures.kept)

@@ -8,8 +8,8 @@ use Rattle.shares.proofs.taking.take_audited.Goals as goal
 pub loop-k-init : goal.loop-k-init
 loop-k-init g c = took_none _
 
-pub take-unless-kept-requires : goal.take-unless-kept-requires
-take-unless-kept-requires g c =
+pub take_unless_kept-requires : goal.take_unless_kept-requires
+take_unless_kept-requires g c =
     let flags = c.args.flags.now in
     let shares = c.args.shares.now in
     let short = length-parts_most c.loop-k.k 2 (audited_share flags (at shares)) (audited_short flags (at shares)) in
@@ -20,4 +20,4 @@ take-unless-kept-requires g c =
     }
 
 pub loop-k-preserved : goal.loop-k-preserved
-loop-k-preserved g c = took_next c.loop-k.k (audited_share c.args.flags.now (at c.args.shares.now)) c.loop-k.invariant c.take-unless-kept.ensures
+loop-k-preserved g c = took_next c.loop-k.k (audited_share c.args.flags.now (at c.args.shares.now)) c.loop-k.invariant c.take_unless_kept.ensures

@@ -12,6 +12,6 @@ unwrap-requires g c =
 pub returns : goal.returns
 returns g c =
     subst (λ t. Took t (g.D.DigestMaker.means c.args.maker.now) (g.D.DigestMaker.means c.take.new.self))
-    (sym (coded_words c.args.bytes.now c.args.count c.requires.pairs (λ i. omega (arith, c.type-inv.bytes i))))
+    (sym (coded_words c.args.bytes.now c.args.count c.requires.pairs (λ i. omega (arith, c.type_inv.bytes i))))
     (took_ok c.take.result (g.D.DigestMaker.means c.args.maker.now) (g.D.DigestMaker.means c.take.new.self) c.args.bytes.now (c.requires.ready.0, omega (arith, c.requires.ready.1))
     c.take.ensures.answer c.take.ensures.effect).1

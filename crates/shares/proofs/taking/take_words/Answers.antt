@@ -13,13 +13,13 @@ loop-word-init g c = took_none _
 pub unwrap-requires : goal.unwrap-requires
 unwrap-requires g c =
     (word_taken c.take.result (g.D.DigestMaker.means c.args.maker.now) (g.D.DigestMaker.means c.loop-word.maker) (g.D.DigestMaker.means c.take.new.self)
-    c.args.words.now c.loop-word.word-index c.to-le-bytes.result c.loop-word-test.true c.to-le-bytes.ensures c.requires c.loop-word.invariant
+    c.args.words.now c.loop-word.word-index c.to_le_bytes.result c.loop-word-test.true c.to_le_bytes.ensures c.requires c.loop-word.invariant
     c.take.ensures.answer c.take.ensures.effect).0
 
 pub loop-word-preserved : goal.loop-word-preserved
 loop-word-preserved g c =
     (word_taken c.take.result (g.D.DigestMaker.means c.args.maker.now) (g.D.DigestMaker.means c.loop-word.maker) (g.D.DigestMaker.means c.take.new.self)
-    c.args.words.now c.loop-word.word-index c.to-le-bytes.result c.loop-word-test.true c.to-le-bytes.ensures c.requires c.loop-word.invariant
+    c.args.words.now c.loop-word.word-index c.to_le_bytes.result c.loop-word-test.true c.to_le_bytes.ensures c.requires c.loop-word.invariant
     c.take.ensures.answer c.take.ensures.effect).1
 
 pub returns : goal.returns

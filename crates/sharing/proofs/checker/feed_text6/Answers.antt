@@ -10,21 +10,21 @@ use Rattle.sharing.proofs.Checking.{commitments_are}
 use Rattle.sharing.proofs.Lengths.{few_parties, commitments_most}
 use Rattle.sharing.proofs.checker.feed_text6.Goals as goal
 
-pub take-commitments-requires : goal.take-commitments-requires
-take-commitments-requires g c =
+pub take_commitments-requires : goal.take_commitments-requires
+take_commitments-requires g c =
     let few : parties (parameters c.args.view.header) ≤ 256 = few_parties (parameters c.args.view.header) (omega arith) in
     search rules
 
-pub take-coded-requires : goal.take-coded-requires
-take-coded-requires g c =
+pub take_coded-requires : goal.take_coded-requires
+take_coded-requires g c =
     let p = parameters c.args.view.header in
     let few : parties p ≤ 256 = few_parties p (omega arith) in
-    let given = c.block-of-block.result.commitment.now in
-    let short : length given ≤ 64 = omega (arith, c.block-of-block.ensures.commitment_long) in
+    let given = c.block_of-block.result.commitment.now in
+    let short : length given ≤ 64 = omega (arith, c.block_of-block.ensures.commitment_long) in
     let most = commitments_most g.D.DigestMaker.function p (short_bytes c.args.salt.now) c.args.e c.regrow.new.nodes (get_or c.args.hidden.now c.args.e 0) given short (parties p) in
     record {
-      pairs = c.block-of-block.ensures.offsets_long;
-      ready = ready_after _ _ _ most_committed (2 * p.m) c.requires.ready (search rules) c.take-commitments.ensures;
+      pairs = c.block_of-block.ensures.offsets_long;
+      ready = ready_after _ _ _ most_committed (2 * p.m) c.requires.ready (search rules) c.take_commitments.ensures;
     }
 
 pub returns : goal.returns
@@ -34,8 +34,8 @@ returns g c =
     let salt = short_bytes c.args.salt.now in
     let party = get_or c.args.hidden.now c.args.e 0 in
     let nodes = c.regrow.new.nodes in
-    subst (λ t. Took t (g.D.DigestMaker.means c.args.long.now) (g.D.DigestMaker.means c.take-coded.new.maker))
+    subst (λ t. Took t (g.D.DigestMaker.means c.args.long.now) (g.D.DigestMaker.means c.take_coded.new.maker))
     (commitments_are F p c.args.view.bytes.now c.args.hidden.now salt c.requires.salt c.args.e party refl nodes
-    (subst (λ s. Regrown F salt c.args.e p.h party s nodes) c.block-of-block.ensures.seeds c.regrow.ensures)
-    _ _ c.block-of-block.ensures.commitment c.block-of-block.ensures.offsets)
-    (took_both c.take-commitments.ensures c.take-coded.ensures)
+    (subst (λ s. Regrown F salt c.args.e p.h party s nodes) c.block_of-block.ensures.seeds c.regrow.ensures)
+    _ _ c.block_of-block.ensures.commitment c.block_of-block.ensures.offsets)
+    (took_both c.take_commitments.ensures c.take_coded.ensures)

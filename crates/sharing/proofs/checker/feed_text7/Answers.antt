@@ -16,9 +16,9 @@ use Rattle.sharing.proofs.Checking.{shown_is, found_is}
 use Rattle.sharing.proofs.Turns.{at_hidden, off_hidden}
 use Rattle.sharing.proofs.checker.feed_text7.Goals as goal
 
-pub invariant-of-known : goal.invariant-of-known
+pub invariant_of-known : goal.invariant_of-known
 unfolding spread
-invariant-of-known g c =
+invariant_of-known g c =
     let long : length c.args.values.now ≡ c.args.view.header.m = ap length c.requires.values ∙ length-map-range_with_len _ 0 c.args.view.header.m in
     (c.requires.flags, (c.requires.kept, (omega arith, (omega arith, (long, (omega arith, omega arith))))))
 
@@ -33,18 +33,18 @@ returns g c =
     let e = c.args.e in
     let party = get_or hidden e 0 in
     let flags = c.args.flags.now in
-    let seed_a = c.seed-of-seed-a.result in
+    let seed_a = c.seed_of-seed_a.result in
     let nodes = c.rebuild.new.nodes in
     let offsets = c.rebuild.new.offsets in
-    subst (λ t. Took t (g.D.DigestMaker.means c.args.long.now) (g.D.DigestMaker.means c.take-parties.new.long))
+    subst (λ t. Took t (g.D.DigestMaker.means c.args.long.now) (g.D.DigestMaker.means c.take_parties.new.long))
     (parts_same (parties p) _ (party_part (scheme F p) (transcript_of F p r hidden flags) e)
     (λ j q. elim (cases_eq j party) [
       | inl is ↦
           at_hidden F _ j is
-          ∙ found_is F p r hidden salt c.requires.salt e party refl nodes c.rebuild.ensures.tree flags seed_a offsets c.requires.flags c.requires.kept c.seed-of-seed-a.ensures c.rebuild.ensures.offsets
+          ∙ found_is F p r hidden salt c.requires.salt e party refl nodes c.rebuild.ensures.tree flags seed_a offsets c.requires.flags c.requires.kept c.seed_of-seed_a.ensures c.rebuild.ensures.offsets
           c.args.values.now c.rebuild.new.key c.rebuild.new.sums j is c.requires.values c.rebuild.ensures.key c.rebuild.ensures.sums
       | inr not ↦
           off_hidden F _ j not
-          ∙ shown_is F p r hidden salt c.requires.salt e party refl nodes c.rebuild.ensures.tree flags seed_a offsets c.requires.flags c.requires.kept c.seed-of-seed-a.ensures c.rebuild.ensures.offsets j q not
+          ∙ shown_is F p r hidden salt c.requires.salt e party refl nodes c.rebuild.ensures.tree flags seed_a offsets c.requires.flags c.requires.kept c.seed_of-seed_a.ensures c.rebuild.ensures.offsets j q not
     ]))
-    c.take-parties.ensures
+    c.take_parties.ensures

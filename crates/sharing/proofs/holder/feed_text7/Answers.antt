@@ -11,8 +11,8 @@ use Rattle.sharing.proofs.Holding.{length-values, shown_is}
 use Rattle.sharing.proofs.Turns.{off_hidden}
 use Rattle.sharing.proofs.holder.feed_text7.Goals as goal
 
-pub invariant-of-known : goal.invariant-of-known
-invariant-of-known g c =
+pub invariant_of-known : goal.invariant_of-known
+invariant_of-known g c =
     let long : length c.args.values.now ≡ c.args.header.m =
     ap length c.requires.values ∙ length-values g.D.DigestMaker.function (parameters c.args.header) (short_bytes c.args.salt.now) c.args.master.now in
     (c.requires.flags, (c.requires.kept, (omega arith, (omega arith, (long, (omega arith, omega arith))))))
@@ -24,10 +24,10 @@ returns g c =
     let p = parameters c.args.header in
     let salt = short_bytes c.args.salt.now in
     let master = c.args.master.now in
-    let seed_a = c.args.seed-a.now in
+    let seed_a = c.args.seed_a.now in
     let flags = c.args.flags.now in
     let all : c.parties.result ≡ parties p = c.parties.ensures in
-    subst (λ t. Took t (g.D.DigestMaker.means c.args.long.now) (g.D.DigestMaker.means c.take-parties.new.long))
+    subst (λ t. Took t (g.D.DigestMaker.means c.args.long.now) (g.D.DigestMaker.means c.take_parties.new.long))
     (parts_same (parties p) _ (honest_part (scheme F p) (holder F p salt master seed_a flags) c.args.e)
-    (λ j q. off_hidden F _ j (λ z. omega arith) ∙ shown_is F p salt master c.args.e c.share-out.new.nodes c.share-out.ensures.tree seed_a flags c.share-out.new.offsets j q c.share-out.ensures.offsets))
-    c.take-parties.ensures
+    (λ j q. off_hidden F _ j (λ z. omega arith) ∙ shown_is F p salt master c.args.e c.share_out.new.nodes c.share_out.ensures.tree seed_a flags c.share_out.new.offsets j q c.share_out.ensures.offsets))
+    c.take_parties.ensures

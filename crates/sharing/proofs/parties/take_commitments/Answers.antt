@@ -12,8 +12,8 @@ use Rattle.sharing.proofs.parties.take_commitments.Goals as goal
 pub loop-j-init : goal.loop-j-init
 loop-j-init g c = took_none _
 
-pub take-commitment-requires : goal.take-commitment-requires
-take-commitment-requires g c =
+pub take_commitment-requires : goal.take_commitment-requires
+take_commitment-requires g c =
     let p = parameters c.args.header in
     let most = commitments_most g.D.DigestMaker.function p (short_bytes c.args.salt.now) c.args.e c.args.nodes.now c.args.hidden c.args.given.now c.requires.given c.loop-j.j in
     record {
@@ -26,7 +26,7 @@ take-commitment-requires g c =
 pub loop-j-preserved : goal.loop-j-preserved
 loop-j-preserved g c =
     took_next c.loop-j.j (commitment_in g.D.DigestMaker.function (parameters c.args.header) (short_bytes c.args.salt.now) c.args.e c.args.nodes.now c.args.hidden c.args.given.now)
-    c.loop-j.invariant c.take-commitment.ensures
+    c.loop-j.invariant c.take_commitment.ensures
 
 pub returns : goal.returns
 returns g c =

@@ -12,8 +12,8 @@ use Rattle.sharing.proofs.parties.take_parties.Goals as goal
 pub loop-j-init : goal.loop-j-init
 loop-j-init g c = took_none _
 
-pub take-party-requires : goal.take-party-requires
-take-party-requires g c =
+pub take_party-requires : goal.take_party-requires
+take_party-requires g c =
     let k = c.args.known in
     let most = shares_most g.D.DigestMaker.function k c.loop-j.j in
     let few : parties (parameters k.header) ≤ 256 = few_parties (parameters k.header) (omega arith) in
@@ -26,7 +26,7 @@ take-party-requires g c =
     }
 
 pub loop-j-preserved : goal.loop-j-preserved
-loop-j-preserved g c = took_next c.loop-j.j (party_text g.D.DigestMaker.function c.args.known) c.loop-j.invariant c.take-party.ensures
+loop-j-preserved g c = took_next c.loop-j.j (party_text g.D.DigestMaker.function c.args.known) c.loop-j.invariant c.take_party.ensures
 
 pub returns : goal.returns
 returns g c =

@@ -16,8 +16,8 @@ returns-then-j-eq0 g c =
     let salt = short_bytes c.args.salt.now in
     let nodes = c.args.nodes.now in
     let j = c.args.j in
-    added_row _ p.set p.m c.draw-row.new.shares c.args.offsets.now _ (share F p salt c.args.e j (leaf_in p nodes j)) (at c.args.offsets.now) (held F p salt c.args.e nodes c.args.offsets.now j)
-    c.of.ensures c.draw-row.ensures c.add-row.ensures (λ k q. refl) (λ k q. sym (cond-true (eqb j 0) _ _ (eq-eqb j 0 c.if-j-eq0.true)))
+    added_row _ p.set p.m c.draw_row.new.shares c.args.offsets.now _ (share F p salt c.args.e j (leaf_in p nodes j)) (at c.args.offsets.now) (held F p salt c.args.e nodes c.args.offsets.now j)
+    c.of.ensures c.draw_row.ensures c.add_row.ensures (λ k q. refl) (λ k q. sym (cond-true (eqb j 0) _ _ (eq-eqb j 0 c.if-j-eq0.true)))
 
 pub returns-else-j-eq0 : goal.returns-else-j-eq0
 returns-else-j-eq0 g c =
@@ -26,6 +26,6 @@ returns-else-j-eq0 g c =
     let salt = short_bytes c.args.salt.now in
     let nodes = c.args.nodes.now in
     let j = c.args.j in
-    c.draw-row.ensures
+    c.draw_row.ensures
     ∙ same_row (share F p salt c.args.e j (leaf_in p nodes j)) (held F p salt c.args.e nodes c.args.offsets.now j) p.m
     (λ k q. sym (cond-false (eqb j 0) _ _ (ne_eqb j 0 c.if-j-eq0.false)))

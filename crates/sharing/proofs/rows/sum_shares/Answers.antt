@@ -14,7 +14,7 @@ use Rattle.shares.proofs.Products.{same_row, row_at}
 use Rattle.sharing.specs.Rows.{leaf_in}
 use Rattle.sharing.proofs.Adding.{added_row}
 use Rattle.sharing.proofs.rows.sum_shares.Goals as goal
-use Rattle.sharing.proofs.rows.sum_shares.Goals.{then-j-left-out, else-j-left-out}
+use Rattle.sharing.proofs.rows.sum_shares.Goals.{then-j-left_out, else-j-left_out}
 
 pub loop-j-init : goal.loop-j-init
 loop-j-init g c =
@@ -29,17 +29,17 @@ loop-j-preserved g c =
     let salt = short_bytes c.args.salt.now in
     let nodes = c.args.nodes.now in
     let j = c.loop-j.j in
-    let out = c.args.left-out in
+    let out = c.args.left_out in
     let f : ℕ → ℕ → ℕ = λ k i. share F p salt c.args.e i (leaf_in p nodes i) k in
-    elim c.if-j-left-out.branch [
-      | then-j-left-out w ↦
+    elim c.if-j-left_out.branch [
+      | then-j-left_out w ↦
           w.sum-is
-          ∙ added_row _ p.set p.m c.loop-j.sum w.draw-row.new.shares _ (λ k. others q j out (f k)) (λ k. f k j) (λ k. others q (j + 1) out (f k))
-          c.of-set.ensures c.loop-j.invariant w.add-row.ensures (λ k r. row_at (λ k. f k j) p.m k _ w.draw-row.ensures r) (λ k r. sym (others_more q j out (f k) w.if-j-left-out.true))
-      | else-j-left-out w ↦
+          ∙ added_row _ p.set p.m c.loop-j.sum w.draw_row.new.shares _ (λ k. others q j out (f k)) (λ k. f k j) (λ k. others q (j + 1) out (f k))
+          c.of-set.ensures c.loop-j.invariant w.add_row.ensures (λ k r. row_at (λ k. f k j) p.m k _ w.draw_row.ensures r) (λ k r. sym (others_more q j out (f k) w.if-j-left_out.true))
+      | else-j-left_out w ↦
           w.sum-is
           ∙ c.loop-j.invariant
-          ∙ same_row (λ k. others q j out (f k)) (λ k. others q (j + 1) out (f k)) p.m (λ k r. sym (others_skip q j out (f k) w.if-j-left-out.false))
+          ∙ same_row (λ k. others q j out (f k)) (λ k. others q (j + 1) out (f k)) p.m (λ k r. sym (others_skip q j out (f k) w.if-j-left_out.false))
     ]
 
 pub returns : goal.returns
@@ -50,4 +50,4 @@ returns g c =
     let salt = short_bytes c.args.salt.now in
     let nodes = c.args.nodes.now in
     let all : c.loop-j.j ≡ parties p = search rules in
-    c.loop-j.invariant ∙ ap (λ n. map (λ k. others q n c.args.left-out (λ i. share F p salt c.args.e i (leaf_in p nodes i) k)) (range_with_len 0 p.m)) all
+    c.loop-j.invariant ∙ ap (λ n. map (λ k. others q n c.args.left_out (λ i. share F p salt c.args.e i (leaf_in p nodes i) k)) (range_with_len 0 p.m)) all

@@ -12,4 +12,4 @@ use Rattle.sharing.proofs.rows.sum_shares.Given as goal
 abbrev pub invariant-loop-j : goal.invariant-loop-j
 invariant-loop-j g l =
     let p = parameters l.header in
-    l.sum ≡ map (λ k. others (modular (modulus p.set)) l.j l.left-out (λ j. share g.D.DigestMaker.function p (short_bytes l.salt) l.e j (leaf_in p l.nodes j) k)) (range_with_len 0 p.m)
+    l.sum ≡ map (λ k. others (modular (modulus p.set)) l.j l.left_out (λ j. share g.D.DigestMaker.function p (short_bytes l.salt) l.e j (leaf_in p l.nodes j) k)) (range_with_len 0 p.m)

@@ -21,10 +21,10 @@ attributes_taken r {F} m' header salt slice attributes h s b is held a k =
 
 pub unwrap-requires : goal.unwrap-requires
 unwrap-requires g c =
-    (attributes_taken c.take.result (g.D.DigestMaker.means c.take.new.self) c.args.header.now (short_bytes c.args.salt.now) c.as-slice.result.now c.args.attributes.now
-    c.requires.header c.as-slice.ensures.few c.requires.attributes c.as-slice.ensures.bytes c.take-text.ensures c.take.ensures.answer c.take.ensures.effect).0
+    (attributes_taken c.take.result (g.D.DigestMaker.means c.take.new.self) c.args.header.now (short_bytes c.args.salt.now) c.as_slice.result.now c.args.attributes.now
+    c.requires.header c.as_slice.ensures.few c.requires.attributes c.as_slice.ensures.bytes c.take_text.ensures c.take.ensures.answer c.take.ensures.effect).0
 
 pub returns : goal.returns
 returns g c =
-    (attributes_taken c.take.result (g.D.DigestMaker.means c.take.new.self) c.args.header.now (short_bytes c.args.salt.now) c.as-slice.result.now c.args.attributes.now
-    c.requires.header c.as-slice.ensures.few c.requires.attributes c.as-slice.ensures.bytes c.take-text.ensures c.take.ensures.answer c.take.ensures.effect).1
+    (attributes_taken c.take.result (g.D.DigestMaker.means c.take.new.self) c.args.header.now (short_bytes c.args.salt.now) c.as_slice.result.now c.args.attributes.now
+    c.requires.header c.as_slice.ensures.few c.requires.attributes c.as_slice.ensures.bytes c.take_text.ensures c.take.ensures.answer c.take.ensures.effect).1

@@ -25,22 +25,22 @@ seed_taken r {F} m' m'' salt slice d1 slice1 flags seed_a s d f n is is1 held to
           ∙ append_assoc (salt ++ d1) flags seed_a ∙ append_assoc salt d1 (flags ++ seed_a)) ok.1,
     )
 
-pub take-flags-requires : goal.take-flags-requires
-take-flags-requires g c = record {
+pub take_flags-requires : goal.take_flags-requires
+take_flags-requires g c = record {
   plain = c.requires.plain;
-  ready = room c.as-slice.result.now c.as-slice-2.result.now c.args.flags.now c.as-slice.ensures.few c.as-slice-2.ensures.few c.requires.few c.take-text.ensures;
+  ready = room c.as_slice.result.now c.as_slice-2.result.now c.args.flags.now c.as_slice.ensures.few c.as_slice-2.ensures.few c.requires.few c.take_text.ensures;
 }
 
 pub unwrap-requires : goal.unwrap-requires
 unwrap-requires g c =
-    (seed_taken c.take.result (g.D.DigestMaker.means c.take-flags.new.maker) (g.D.DigestMaker.means c.take.new.self)
-    (short_bytes c.args.salt.now) c.as-slice.result.now (short_bytes c.args.d1.now) c.as-slice-2.result.now c.args.flags.now c.args.seed-a.now
-    c.as-slice.ensures.few c.as-slice-2.ensures.few c.requires.few (omega arith) c.as-slice.ensures.bytes c.as-slice-2.ensures.bytes c.take-text.ensures c.take-flags.ensures
+    (seed_taken c.take.result (g.D.DigestMaker.means c.take_flags.new.maker) (g.D.DigestMaker.means c.take.new.self)
+    (short_bytes c.args.salt.now) c.as_slice.result.now (short_bytes c.args.d1.now) c.as_slice-2.result.now c.args.flags.now c.args.seed_a.now
+    c.as_slice.ensures.few c.as_slice-2.ensures.few c.requires.few (omega arith) c.as_slice.ensures.bytes c.as_slice-2.ensures.bytes c.take_text.ensures c.take_flags.ensures
     c.take.ensures.answer c.take.ensures.effect).0
 
 pub returns : goal.returns
 returns g c =
-    (seed_taken c.take.result (g.D.DigestMaker.means c.take-flags.new.maker) (g.D.DigestMaker.means c.take.new.self)
-    (short_bytes c.args.salt.now) c.as-slice.result.now (short_bytes c.args.d1.now) c.as-slice-2.result.now c.args.flags.now c.args.seed-a.now
-    c.as-slice.ensures.few c.as-slice-2.ensures.few c.requires.few (omega arith) c.as-slice.ensures.bytes c.as-slice-2.ensures.bytes c.take-text.ensures c.take-flags.ensures
+    (seed_taken c.take.result (g.D.DigestMaker.means c.take_flags.new.maker) (g.D.DigestMaker.means c.take.new.self)
+    (short_bytes c.args.salt.now) c.as_slice.result.now (short_bytes c.args.d1.now) c.as_slice-2.result.now c.args.flags.now c.args.seed_a.now
+    c.as_slice.ensures.few c.as_slice-2.ensures.few c.requires.few (omega arith) c.as_slice.ensures.bytes c.as_slice-2.ensures.bytes c.take_text.ensures c.take_flags.ensures
     c.take.ensures.answer c.take.ensures.effect).1

@@ -8,11 +8,11 @@ use Rattle.sharing.specs.Parts.{holder_commitments}
 use Rattle.texts.proofs.Wholes.{ready6, whole6}
 use Rattle.texts.proofs.holder.digest_text6.Goals as goal
 
-pub feed-all6-requires : goal.feed-all6-requires
-feed-all6-requires g c = record {
+pub feed_all6-requires : goal.feed_all6-requires
+feed_all6-requires g c = record {
   values = c.requires.values;
   scratch = c.requires.scratch;
-  ready = ready6 c.encode-header.result c.args.salt.now c.args.attributes.now c.begin-text6.ensures (omega arith) (omega arith);
+  ready = ready6 c.encode_header.result c.args.salt.now c.args.attributes.now c.begin_text6.ensures (omega arith) (omega arith);
 }
 
 pub returns : goal.returns
@@ -20,10 +20,10 @@ unfolding honest6 holder_commitments
 returns g c =
     let F = g.D.DigestMaker.function in
     let p = parameters c.args.header in
-    let header = c.encode-header.result in
+    let header = c.encode_header.result in
     let salt = c.args.salt.now in
     let attributes = c.args.attributes.now in
     let rest : List ℕ = parts p.tau (holder_commitments F p (short_bytes salt) c.args.master.now) in
-    c.draw-short.ensures
-    ∙ (λ i. first_bytes (whole6 header salt attributes c.begin-text6.ensures _ rest c.feed-all6.ensures i) (c.width.ensures i))
-    ∙ ap (λ h. first_bytes (F (6 ∷ (h ++ (short_bytes salt ++ (attributes ++ rest))))) 32) c.encode-header.ensures.bytes
+    c.draw_short.ensures
+    ∙ (λ i. first_bytes (whole6 header salt attributes c.begin_text6.ensures _ rest c.feed_all6.ensures i) (c.width.ensures i))
+    ∙ ap (λ h. first_bytes (F (6 ∷ (h ++ (short_bytes salt ++ (attributes ++ rest))))) 32) c.encode_header.ensures.bytes

@@ -17,10 +17,10 @@ use Rattle.texts.proofs.Keys.{key_is}
 use Rattle.texts.proofs.Wholes.{ready7, whole7}
 use Rattle.texts.proofs.holder.digest_text7.Goals as goal
 
-pub take-key-requires : goal.take-key-requires
-take-key-requires g c =
+pub take_key-requires : goal.take_key-requires
+take_key-requires g c =
     let p = parameters c.args.header in
-    let ready = ready7 c.args.salt.now c.args.d1.now c.args.flags.now c.args.seed-a.now c.begin-text7.ensures (omega arith) (omega arith) in
+    let ready = ready7 c.args.salt.now c.args.d1.now c.args.flags.now c.args.seed_a.now c.begin_text7.ensures (omega arith) (omega arith) in
     record {
       values = ap length c.requires.values ∙ length-values g.D.DigestMaker.function p (short_bytes c.args.salt.now) c.args.master.now;
       flags = c.requires.flags;
@@ -29,10 +29,10 @@ take-key-requires g c =
       ready = (ready.0, omega (arith, ready.1));
     }
 
-pub feed-all7-requires : goal.feed-all7-requires
-feed-all7-requires g c =
+pub feed_all7-requires : goal.feed_all7-requires
+feed_all7-requires g c =
     let p = parameters c.args.header in
-    let f : ℕ → ℕ = product_of p c.args.seed-a.now c.args.flags.now (at c.args.values.now) in
+    let f : ℕ → ℕ = product_of p c.args.seed_a.now c.args.flags.now (at c.args.values.now) in
     let b : List ℕ = map f (range_with_len 0 (p.n * p.c)) in
     record {
       values = c.requires.values;
@@ -40,8 +40,8 @@ feed-all7-requires g c =
       kept = c.requires.kept;
       scratch = search rules;
       ready = ready_after _ _ (flat_map le16 b) (32768 + 64 * (256 * most_shown)) (64 * (256 * most_shown))
-          (ready7 c.args.salt.now c.args.d1.now c.args.flags.now c.args.seed-a.now c.begin-text7.ensures (omega arith) (omega arith))
-          (omega (arith, length-coded b, length-map-range_with_len f 0 (p.n * p.c))) c.take-key.ensures;
+          (ready7 c.args.salt.now c.args.d1.now c.args.flags.now c.args.seed_a.now c.begin_text7.ensures (omega arith) (omega arith))
+          (omega (arith, length-coded b, length-map-range_with_len f 0 (p.n * p.c))) c.take_key.ensures;
     }
 
 pub returns : goal.returns
@@ -52,12 +52,12 @@ returns g c =
     let salt = c.args.salt.now in
     let d1 = c.args.d1.now in
     let flags = c.args.flags.now in
-    let seed_a = c.args.seed-a.now in
+    let seed_a = c.args.seed_a.now in
     let master = c.args.master.now in
     let values = c.args.values.now in
     let b : List ℕ = map (product_of p seed_a flags (at values)) (range_with_len 0 (p.n * p.c)) in
     let rest : List ℕ = parts p.tau (holder_shares F p (short_bytes salt) master seed_a flags) in
-    c.draw-short.ensures
-    ∙ (λ i. first_bytes (whole7 salt d1 flags seed_a c.begin-text7.ensures _ _ (flat_map le16 b) rest c.take-key.ensures c.feed-all7.ensures i) (c.width.ensures i))
+    c.draw_short.ensures
+    ∙ (λ i. first_bytes (whole7 salt d1 flags seed_a c.begin_text7.ensures _ _ (flat_map le16 b) rest c.take_key.ensures c.feed_all7.ensures i) (c.width.ensures i))
     ∙ ap (λ k. first_bytes (F (7 ∷ (short_bytes salt ++ (short_bytes d1 ++ (flags ++ (seed_a ++ (flat_map le16 k ++ rest))))))) 32)
     (key_is F p (short_bytes salt) master [] (short_bytes d1) seed_a flags values c.requires.values c.requires.flags c.requires.kept)

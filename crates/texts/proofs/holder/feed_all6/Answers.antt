@@ -9,8 +9,8 @@ use Rattle.texts.proofs.holder.feed_all6.Goals as goal
 pub loop-e-init : goal.loop-e-init
 loop-e-init g c = took_none _
 
-pub feed-text6-requires : goal.feed-text6-requires
-feed-text6-requires g c =
+pub feed_text6-requires : goal.feed_text6-requires
+feed_text6-requires g c =
     let p = parameters c.args.header in
     let most = all_commitments_most g.D.DigestMaker.function p (short_bytes c.args.salt.now) c.args.master.now (omega arith) (omega arith) (omega arith) c.loop-e.e in
     record {
@@ -22,4 +22,4 @@ feed-text6-requires g c =
 pub loop-e-preserved : goal.loop-e-preserved
 loop-e-preserved g c =
     took_next c.loop-e.e (holder_commitments g.D.DigestMaker.function (parameters c.args.header) (short_bytes c.args.salt.now) c.args.master.now)
-    c.loop-e.invariant c.feed-text6.ensures
+    c.loop-e.invariant c.feed_text6.ensures

@@ -10,10 +10,10 @@ use Rattle.texts.proofs.holder.feed_all7.Goals as goal
 pub loop-e-init : goal.loop-e-init
 loop-e-init g c = took_none _
 
-pub feed-text7-requires : goal.feed-text7-requires
-feed-text7-requires g c =
+pub feed_text7-requires : goal.feed_text7-requires
+feed_text7-requires g c =
     let p = parameters c.args.header in
-    let most = all_shares_most g.D.DigestMaker.function p (short_bytes c.args.salt.now) c.args.master.now (omega arith) (omega arith) (omega arith) c.args.seed-a.now c.args.flags.now c.loop-e.e in
+    let most = all_shares_most g.D.DigestMaker.function p (short_bytes c.args.salt.now) c.args.master.now (omega arith) (omega arith) (omega arith) c.args.seed_a.now c.args.flags.now c.loop-e.e in
     record {
       values = c.requires.values;
       flags = c.requires.flags;
@@ -24,5 +24,5 @@ feed-text7-requires g c =
 
 pub loop-e-preserved : goal.loop-e-preserved
 loop-e-preserved g c =
-    took_next c.loop-e.e (holder_shares g.D.DigestMaker.function (parameters c.args.header) (short_bytes c.args.salt.now) c.args.master.now c.args.seed-a.now c.args.flags.now)
-    c.loop-e.invariant c.feed-text7.ensures
+    took_next c.loop-e.e (holder_shares g.D.DigestMaker.function (parameters c.args.header) (short_bytes c.args.salt.now) c.args.master.now c.args.seed_a.now c.args.flags.now)
+    c.loop-e.invariant c.feed_text7.ensures

@@ -16,14 +16,14 @@ lay-requires c =
       room = lay_room (state_of c.args.self.now) a (parameters c.args.header) c.requires.well c.requires.header c.requires.room;
     }
 
-pub overflow-add-self-2 : goal.overflow-add-self-2
-overflow-add-self-2 c = let n = few (state_of c.args.self.now) c.args.self.now.intact in search rules
+pub overflow_add-self-2 : goal.overflow_add-self-2
+overflow_add-self-2 c = let n = few (state_of c.args.self.now) c.args.self.now.intact in search rules
 
-pub invariant-of-self : goal.invariant-of-self
-invariant-of-self c =
+pub invariant_of-self : goal.invariant_of-self
+invariant_of-self c =
     let a : Entry = record { bytes = c.args.«record».now; hidden = c.args.hidden.now; flags = c.args.flags.now } in (
       intact_added (state_of c.args.self.now) a (parameters c.args.header) c.requires.well c.requires.header c.requires.room c.args.self.now.intact
-          c.lay.new.memory.now c.entry-length.result c.lay.ensures.after c.entry-length.ensures,
+          c.lay.new.memory.now c.entry_length.result c.lay.ensures.after c.entry_length.ensures,
       tt,
     )
 
@@ -34,6 +34,6 @@ returns c =
       number = refl;
       state =
           added (state_of c.args.self.now) a (parameters c.args.header) c.requires.well c.requires.header c.requires.room c.lay.new.memory.now
-          c.entry-length.result c.lay.ensures.after c.entry-length.ensures;
+          c.entry_length.result c.lay.ensures.after c.entry_length.ensures;
       same = c.lay.ensures.same;
     }

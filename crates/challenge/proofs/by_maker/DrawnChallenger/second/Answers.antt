@@ -8,5 +8,5 @@ pub returns : goal.returns
 returns g c =
     let s = c.args.self.now in
     let old = g.D.DigestMaker.means s.maker in
-    let m = g.D.DigestMaker.means c.take-text.new.maker in
-    started_by_maker _ _ old m s.asked _ _ (subst (λ t. Holding g.D.DigestMaker.function (11 ∷ t) m) (append-nil s.two) c.take-text.ensures) refl
+    let m = g.D.DigestMaker.means c.take_text.new.maker in
+    started_by_maker _ _ old m s.asked _ _ (subst (λ t. Holding g.D.DigestMaker.function (11 ∷ t) m) (append-nil s.two) c.take_text.ensures) refl

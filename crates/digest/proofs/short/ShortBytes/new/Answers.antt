@@ -6,4 +6,4 @@ held : (xs ys zs : List ℕ) → ys ≡ xs → take (length xs) (ys ++ zs) ≡ x
 held xs ys zs e = ap (λ z. take (length xs) (z ++ zs)) e ∙ take_at xs zs (length xs) refl
 
 pub returns : goal.returns
-returns c = held c.args.bytes.now c.copy-from-slice.new.self _ c.copy-from-slice.ensures.after
+returns c = held c.args.bytes.now c.copy_from_slice.new.self _ c.copy_from_slice.ensures.after

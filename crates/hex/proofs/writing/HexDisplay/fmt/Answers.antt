@@ -7,14 +7,14 @@ use Rattle.hex.proofs.writing.HexDisplay.fmt.Goals as goal
 pub loop-b-preserved : goal.loop-b-preserved
 loop-b-preserved g c plain =
     let f = c.args.f.now in
-    let f' = c.write-byte.new.f in
+    let f' = c.write_byte.new.f in
     let bs = c.args.self.now.0.now in
     let i = c.loop-b.b-index in
     let so_far = c.loop-b.invariant plain in
-    let ok : is_ok c.write-byte.result ≡ true = search rules in
+    let ok : is_ok c.write_byte.result ≡ true = search rules in
     has_written_of_eq g.W.Write.write_str_gives f (digits_of (take i bs) ++ digits (get_or bs i 0)) (digits_of (take (i + 1) bs)) f'
     (flat_map_more digits [] (take i bs) (get_or bs i 0) ∙ ap digits_of (sym (take_more bs i 0 c.loop-b-test.true)))
-    (has_written_append g.W.Write.write_str_gives f (digits_of (take i bs)) c.loop-b.f (digits (get_or bs i 0)) f' so_far (c.write-byte.ensures so_far.plain ok))
+    (has_written_append g.W.Write.write_str_gives f (digits_of (take i bs)) c.loop-b.f (digits (get_or bs i 0)) f' so_far (c.write_byte.ensures so_far.plain ok))
 
 pub returns-clause-writes : goal.returns-clause-writes
 returns-clause-writes g c plain ok =

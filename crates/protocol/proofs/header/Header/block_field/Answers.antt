@@ -11,5 +11,5 @@ returns-in-0 c = sym (block_at_index c.args.self.tau (c.args.index / 3) 0 c.args
 pub returns-in-1 : goal.returns-in-1
 returns-in-1 c = sym (block_at_index c.args.self.tau (c.args.index / 3) 1 c.args.index (omega arith) (omega arith) (omega arith))
 
-pub returns-in-default : goal.returns-in-default
-returns-in-default c = sym (block_at_index c.args.self.tau (c.args.index / 3) 2 c.args.index (omega arith) (omega arith) (omega arith))
+pub returns-in_default : goal.returns-in_default
+returns-in_default c = sym (block_at_index c.args.self.tau (c.args.index / 3) 2 c.args.index (omega arith) (omega arith) (omega arith))

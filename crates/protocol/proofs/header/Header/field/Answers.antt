@@ -4,4 +4,4 @@ use Rattle.protocol.proofs.Tiling.{before, behind}
 use Rattle.protocol.proofs.header.Header.field.Goals as goal
 
 pub returns : goal.returns
-returns c = c.block-field.ensures ∙ sym (behind (parameters c.args.self) c.args.index (c.args.index - 16) (omega arith))
+returns c = c.block_field.ensures ∙ sym (behind (parameters c.args.self) c.args.index (c.args.index - 16) (omega arith))

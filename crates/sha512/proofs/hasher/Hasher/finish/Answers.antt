@@ -9,11 +9,11 @@ pub returns : goal.returns
 returns c =
     let mark : List ℕ = 0x80 ∷ replicate 127 0 in
     let z : ℕ = (239 - c.filled.result) % 128 in
-    let bits : length c.to-be-bytes-bits.result ≡ 16 = ap length c.to-be-bytes-bits.ensures in
+    let bits : length c.to_be_bytes-bits.result ≡ 16 = ap length c.to_be_bytes-bits.ensures in
     let front : length (take ((z + 1) - 0) mark) ≡ z + 1 = length-take ((z + 1) - 0) mark ∙ omega arith in
     let full : c.take-2.new.self.total % 128 ≡ 0 = omega (arith, c.take.ensures.total, c.take-2.ensures.total) in
     let is : z ≡ zeros c.args.self.total = omega arith in
     sym (after_none c.take-2.new.self full) ∙ c.take-2.ensures.words [] ∙ c.take.ensures.words _
-    ∙ ap (λ b. after c.args.self (take ((z + 1) - 0) mark ++ b)) (append-nil c.to-be-bytes-bits.result)
-    ∙ ap (after c.args.self) (padding_is c.args.self.total z c.to-be-bytes-bits.result is c.to-be-bytes-bits.ensures)
+    ∙ ap (λ b. after c.args.self (take ((z + 1) - 0) mark ++ b)) (append-nil c.to_be_bytes-bits.result)
+    ∙ ap (after c.args.self) (padding_is c.args.self.total z c.to_be_bytes-bits.result is c.to_be_bytes-bits.ensures)
     ∙ ended_none c.args.self

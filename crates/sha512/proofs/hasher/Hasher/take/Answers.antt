@@ -11,8 +11,8 @@ returns c =
     let le : room ≤ end = omega arith in
     record {
       words = λ y.
-          c.take-few-3.ensures.words y ∙ c.take-blocks.ensures.words _ ∙ c.take-few-2.ensures.words _
+          c.take_few-3.ensures.words y ∙ c.take_blocks.ensures.words _ ∙ c.take_few-2.ensures.words _
           ∙ ap (after c.args.self.now) (three_parts c.args.bytes.now room end le y);
       total = three_lengths c.args.bytes.now room end le c.args.self.now.total _ _ _ (omega arith)
-          c.take-few-2.ensures.total c.take-blocks.ensures.total c.take-few-3.ensures.total;
+          c.take_few-2.ensures.total c.take_blocks.ensures.total c.take_few-3.ensures.total;
     }

@@ -7,7 +7,7 @@ pub returns-then-end-eq-BLOCK : goal.returns-then-end-eq-BLOCK
 unfolding after
 returns-then-end-eq-BLOCK c = record {
   words = few_filled c.args.self.now.words c.args.self.now.block c.args.bytes.now _ c.args.self.now.total _ _
-      c.filled-filled.ensures (search rules) c.copy-from-slice.ensures.after _ (omega arith) (omega arith) c.compress.ensures;
+      c.filled-filled.ensures (search rules) c.copy_from_slice.ensures.after _ (omega arith) (omega arith) c.compress.ensures;
   total = search rules;
 }
 
@@ -15,6 +15,6 @@ pub returns-else-end-eq-BLOCK : goal.returns-else-end-eq-BLOCK
 unfolding after
 returns-else-end-eq-BLOCK c = record {
   words = few_held c.args.self.now.words c.args.self.now.block c.args.bytes.now _ c.args.self.now.total _ _
-      c.filled-filled.ensures (search rules) c.copy-from-slice.ensures.after (omega arith);
+      c.filled-filled.ensures (search rules) c.copy_from_slice.ensures.after (omega arith);
   total = search rules;
 }

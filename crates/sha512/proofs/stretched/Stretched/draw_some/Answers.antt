@@ -22,8 +22,8 @@ returns c =
       within = all.2;
       hasher = c.refresh.ensures.hasher;
       drawn = omega arith;
-      before = c.copy-part.ensures.before;
+      before = c.copy_part.ensures.before;
       fresh = λ k h.
-          c.copy-part.ensures.fresh k (omega arith)
+          c.copy_part.ensures.fresh k (omega arith)
           ∙ part_fresh c.args.self.now.hasher block d used count k c.refresh.ensures.block (ap (λ (n : ℕ). n % 64) same) all.1 (omega arith);
     }

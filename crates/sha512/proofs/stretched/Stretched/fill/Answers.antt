@@ -7,13 +7,13 @@ use Rattle.sha512.proofs.stretched.Stretched.fill.Goals as goal
 
 pub loop-at-preserved : goal.loop-at-preserved
 loop-at-preserved c =
-    let further : c.loop-at.at < c.draw-some-at.result = c.draw-some-at.ensures.further in (
-      omega (arith, c.draw-some-at.ensures.within),
-      c.draw-some-at.ensures.hasher ∙ c.loop-at.invariant.1,
-      omega (arith, c.draw-some-at.ensures.drawn, c.loop-at.invariant.2),
-      filled_more c.args.self.now.hasher c.args.self.now.drawn c.loop-at.at c.draw-some-at.result c.loop-at.out c.draw-some-at.new.out
-          (omega arith) c.loop-at.invariant.3 c.draw-some-at.ensures.before
-          (λ k h. c.draw-some-at.ensures.fresh k h ∙ ap₂ (λ s d. stream_from s d [] k) c.loop-at.invariant.1 c.loop-at.invariant.2),
+    let further : c.loop-at.at < c.draw_some-at.result = c.draw_some-at.ensures.further in (
+      omega (arith, c.draw_some-at.ensures.within),
+      c.draw_some-at.ensures.hasher ∙ c.loop-at.invariant.1,
+      omega (arith, c.draw_some-at.ensures.drawn, c.loop-at.invariant.2),
+      filled_more c.args.self.now.hasher c.args.self.now.drawn c.loop-at.at c.draw_some-at.result c.loop-at.out c.draw_some-at.new.out
+          (omega arith) c.loop-at.invariant.3 c.draw_some-at.ensures.before
+          (λ k h. c.draw_some-at.ensures.fresh k h ∙ ap₂ (λ s d. stream_from s d [] k) c.loop-at.invariant.1 c.loop-at.invariant.2),
     )
 
 pub returns : goal.returns
