@@ -19,6 +19,7 @@ DECLARES = re.compile(r"^\s*((?:abbrev |unfoldable |pub |record |data |syntax )*
 HEADS = ("length", "get_or", "drop", "take")
 SHAPES = re.compile(r"^\s*(?:pub )?(?:record|data) ([^\s(){}:;=,.]+) [{(]")
 RENAMES = re.compile(r" as ([^\s(){}:;=,.]+)")
+LIBRARY = re.compile(r"^(?:ghost )?use (?:Rattle\.std\b|(?!Rattle\.))[^{]*\{([^}]*)\}")
 CLAUSE = re.compile(r"^\s*(ghost\b|requires\b|ensures\b|invariant\b)")
 
 
@@ -41,6 +42,18 @@ def spelled(name):
     if head in HEADS:
         return head + "-" + rest.replace("-", "_")
     return name.replace("-", "_")
+
+
+def borrowed():
+    """The names that a file of the repository takes from a library, which keep their spelling."""
+    names = set()
+    for path in antt_files() + rt_files():
+        with open(path, encoding="utf-8") as f:
+            for line in f:
+                m = LIBRARY.match(line)
+                if m:
+                    names.update(n.split(" as ")[0].strip() for n in m.group(1).split(","))
+    return names
 
 
 def declared():
@@ -70,10 +83,10 @@ def declared():
 
 def main():
     own, made = declared()
-    table, taken = {}, {}
+    table, taken, kept = {}, {}, borrowed()
     for name in sorted(own):
         new = spelled(name)
-        if new != name and name not in made:
+        if new != name and name not in made and name not in kept:
             table[name] = new
         taken.setdefault(new, set()).add(name)
     bad = 0

@@ -1,5 +1,5 @@
 -- What questions and fills come to.
-use Rattle.std.proofs.Common.{◌≡◌, ℕ, ◌+◌, ◌≤◌, Bool, true, false, cond, not, ltb, List, [], ◌∷◌, ◌++◌, length, is_some, is_ok, Some, None, Ok, Err, Result, sym, refl, ap, ◌∙◌, subst, add_assoc, zero_add, arith, MatchResult}
+use Rattle.std.proofs.Common.{◌≡◌, ℕ, ◌+◌, ◌≤◌, Bool, true, false, cond, not, ltb, List, [], ◌∷◌, ◌++◌, length, is_some, is_ok, Some, None, Ok, Err, Result, sym, refl, ap, ◌∙◌, subst, add_assoc, zero-add, arith, MatchResult}
 use mathlib.Core.Path.{fun_ext}
 use Rattle.std.proofs.lemmas.List.{append-nil}
 use Rattle.std.proofs.lemmas.Bool.{le-ltb}
@@ -42,7 +42,7 @@ pub started_reads : {s : ℕ → ℕ} {o m : Answering} → Started s o m → Re
 started_reads {s} k = record {
   first = k.first;
   second = k.second;
-  rest = k.rest ∙ ap Some (fun_ext (λ i. ap s (sym (zero_add i))));
+  rest = k.rest ∙ ap Some (fun_ext (λ i. ap s (sym (zero-add i))));
   filled = k.filled;
 }
 
@@ -81,6 +81,6 @@ pub own_first : {a b : List ℕ} {o m : Answering} → Started (o.first a b) o m
 own_first {a} {b} {o} {m} k = record {
   first = refl;
   second = refl;
-  rest = k.rest ∙ (λ z. Some (sym k.first z a b)) ∙ ap Some (fun_ext (λ i. ap (m.first a b) (sym (zero_add i))));
+  rest = k.rest ∙ (λ z. Some (sym k.first z a b)) ∙ ap Some (fun_ext (λ i. ap (m.first a b) (sym (zero-add i))));
   filled = k.filled;
 }

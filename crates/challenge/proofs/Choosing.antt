@@ -1,5 +1,5 @@
 -- A selection, draw by draw.
-use Rattle.std.proofs.Common.{◌≡◌, ℕ, zero, suc, ◌+◌, ◌-◌, ◌*◌, ◌%◌, ◌<◌, ◌≤◌, List, [], ◌∷◌, map, length, get_or, replicate, sym, refl, ap, ◌∙◌, subst, zero_add, add-one, arith}
+use Rattle.std.proofs.Common.{◌≡◌, ℕ, zero, suc, ◌+◌, ◌-◌, ◌*◌, ◌%◌, ◌<◌, ◌≤◌, List, [], ◌∷◌, map, length, get_or, replicate, sym, refl, ap, ◌∙◌, subst, zero-add, add-one, arith}
 use Rattle.std.proofs.lemmas.List.FromFn.{fill_by_all, length-map-range_with_len, get_or-map-range_with_len}
 use Rattle.protocol.specs.Streams.{first_bytes}
 use Rattle.protocol.specs.Selection.{little, keep, picks, selected, hidden_parties}
@@ -39,4 +39,4 @@ unfolding first_bytes hidden_parties
 hidden_is s n tau drawn out e long each =
     fill_by_all (λ k. s k % n) out tau 0 long
     (λ k less. each k (let m = ap length e ∙ length-map-range_with_len (λ i. s (0 + i)) 0 tau in omega arith)
-    ∙ ap (λ b. b % n) (ap (λ b. get_or b k 0) e ∙ get_or-map-range_with_len (λ i. s (0 + i)) 0 tau k k 0 less (omega arith) ∙ ap s (zero_add k)))
+    ∙ ap (λ b. b % n) (ap (λ b. get_or b k 0) e ∙ get_or-map-range_with_len (λ i. s (0 + i)) 0 tau k k 0 less (omega arith) ∙ ap s (zero-add k)))

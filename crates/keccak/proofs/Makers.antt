@@ -1,5 +1,5 @@
 -- What the calls of a SHAKE256 maker do to what it means, and SHAKE in one call.
-use Rattle.std.proofs.Common.{◌≡◌, ℕ, ◌+◌, ◌<◌, cond, eqb, List, [], ◌++◌, length, get_or, take, replicate, sym, refl, ap, ◌∙◌, subst, ap₂, zero_add, arith}
+use Rattle.std.proofs.Common.{◌≡◌, ℕ, ◌+◌, ◌<◌, cond, eqb, List, [], ◌++◌, length, get_or, take, replicate, sym, refl, ap, ◌∙◌, subst, ap₂, zero-add, arith}
 use Rattle.std.proofs.lemmas.List.FromFn.{fill_by_all}
 use Rattle.std.proofs.lemmas.List.{append-nil}
 use Rattle.std.proofs.lemmas.Bool.{cond-true, cond-false, eq-eqb, ne_eqb}
@@ -55,4 +55,4 @@ pub shaken : (r : ℕ) (text held s t out : List ℕ) (n : ℕ) → length out �
 unfolding first_bytes shake
 shaken r text held s t out n long taken closed given =
     let e : t ≡ sponge r (replicate 25 0) text = closed ∙ ap (sponge r s) (sym (append-nil held)) ∙ taken [] ∙ ap (sponge r (replicate 25 0)) (append-nil text) in
-    fill_by_all (stream r (sponge r (replicate 25 0) text)) out n 0 long (λ k h. given k h ∙ ap₂ (stream r) e (zero_add k))
+    fill_by_all (stream r (sponge r (replicate 25 0) text)) out n 0 long (λ k h. given k h ∙ ap₂ (stream r) e (zero-add k))

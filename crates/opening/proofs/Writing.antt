@@ -1,5 +1,5 @@
 -- Bytes written over an output, one part behind the other.
-use Rattle.std.proofs.Common.{◌≡◌, ℕ, ◌+◌, ◌*◌, ◌<◌, ◌≤◌, List, [], ◌++◌, length, get_or, take, drop, sym, refl, ap, ◌∙◌, zero_add, arith}
+use Rattle.std.proofs.Common.{◌≡◌, ℕ, ◌+◌, ◌*◌, ◌<◌, ◌≤◌, List, [], ◌++◌, length, get_or, take, drop, sym, refl, ap, ◌∙◌, zero-add, arith}
 use borrow.Rule.Slice.PartMut.{put_mid}
 use Rattle.std.specs.List.{flat_map}
 use Rattle.std.proofs.lemmas.List.{append_assoc, flat_map_more, take_more, take-append-drop, drop-drop, take_at, drop_at, length-take, length-take-le, length-drop, length-append}
@@ -33,7 +33,7 @@ wrote_none at old = ap (λ k. take at old ++ drop k old) (let z : at + 0 ≡ at 
 
 -- a write to the front
 pub wrote_front : (n : ℕ) (bytes old : List ℕ) → length bytes ≡ n → wrote 0 bytes old ≡ bytes ++ drop n old
-wrote_front n bytes old long = ap (λ k. bytes ++ drop k old) (zero_add (length bytes) ∙ long)
+wrote_front n bytes old long = ap (λ k. bytes ++ drop k old) (zero-add (length bytes) ∙ long)
 
 -- one number more of a row
 pub wrote_word : (at i : ℕ) (ws z old was : List ℕ) → i < length ws → z ≡ le16 (get_or ws i 0) → at ≤ length old → was ≡ wrote at (flat_map le16 (take i ws)) old →

@@ -1,6 +1,6 @@
 -- The end of a text: its padding, and the hash that a hasher comes to.
 use Rattle.std.specs.Prelude.{◌≡◌, ℕ, suc, ◌+◌, ◌-◌, ◌*◌, ◌%◌, List, [], ◌∷◌, ◌++◌, length, take, replicate}
-use Rattle.std.proofs.Common.{sym, ap, ap₂, ◌∙◌, append_assoc, add-zero, zero_add, arith, length-append}
+use Rattle.std.proofs.Common.{sym, ap, ap₂, ◌∙◌, append_assoc, add-zero, zero-add, arith, length-append}
 use Rattle.std.proofs.lemmas.List.{take-replicate}
 use Rattle.sha512.specs.declared.hasher.Hasher.{Hasher}
 use Rattle.sha512.specs.Sha512.{initial}
@@ -42,4 +42,4 @@ pub ended_new : (s : Hasher) (x : List ℕ) → s.words ≡ initial → s.total 
 unfolding ended after hash_words
 ended_new s x words total =
     ap (λ n. absorbed s.words (take (n % 128) s.block ++ (x ++ padding (n + length x)))) total
-    ∙ ap₂ (λ h n. absorbed h (x ++ padding n)) words (zero_add (length x))
+    ∙ ap₂ (λ h n. absorbed h (x ++ padding n)) words (zero-add (length x))

@@ -1,5 +1,5 @@
 -- Entries modulo q are lawful, and the matrix rule is linear.
-use Rattle.std.proofs.Common.{◌≡◌, ℕ, zero, suc, ◌+◌, ◌-◌, ◌*◌, ◌/◌, ◌%◌, ◌<◌, ◌≤◌, List, [], ◌∷◌, length, ℤ, pos, negsuc, sym, refl, ap, ◌∙◌, add_assoc, mod-lt, mod-eq_of_lt, add_comm, zero_add, mul-add, mul_left_comm, arith}
+use Rattle.std.proofs.Common.{◌≡◌, ℕ, zero, suc, ◌+◌, ◌-◌, ◌*◌, ◌/◌, ◌%◌, ◌<◌, ◌≤◌, List, [], ◌∷◌, length, ℤ, pos, negsuc, sym, refl, ap, ◌∙◌, add_assoc, mod-lt, mod-eq_of_lt, add_comm, zero-add, mul-add, mul_left_comm, arith}
 use native.Mathlib.Nat.{mod-mod, mod-add-mod, add-mod-mod, add-mod_right, mod-add-div, add-mul-mod_self_left, zero-mod}
 use Rattle.std.proofs.lemmas.Nat.{mul-add-lt}
 use Rattle.soundness.proofs.Parts.{same_cons}
@@ -30,7 +30,7 @@ module _ (q : ℕ) (some : 0 < q) (small : q ≤ 65536) where
   modular_lawful = record {
     comm = λ x y. ap (λ z. z % q) (add_comm x y);
     assoc = λ x y z. mod-add-mod (x + y) q z ∙ ap (λ w. w % q) (add_assoc x y z) ∙ sym (add-mod-mod x (y + z) q);
-    start = λ x. ap (λ z. z % q) (zero_add x);
+    start = λ x. ap (λ z. z % q) (zero-add x);
     least_none = zero-mod q;
     least_add = λ x y. mod-mod (x + y) q;
     least_sub = λ x y. mod-mod (x + (q - y % q)) q;
