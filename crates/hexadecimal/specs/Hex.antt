@@ -2,8 +2,8 @@
 use Rattle.std.specs.Prelude.{◌≡◌, ℕ, ◌+◌, ◌-◌, ◌*◌, ◌/◌, ◌%◌, ◌<◌, Bool, cond, List, [], ◌∷◌, ◌++◌, length, is_some, Some, None, codes, decimal, Option, nat_lt}
 use Rattle.std.specs.Int.{is_in_range}
 use Rattle.std.specs.List.{flat_map, prefix_len, AllByRecursion as All}
-use Rattle.hex.specs.declared.reading.DecodeError.{DecodeError}
-use Rattle.hex.specs.declared.reading.DecodeError.TheVariants.{OddLength, NotADigit, NoMemory}
+use Rattle.hexadecimal.specs.declared.reading.DecodeError.{DecodeError}
+use Rattle.hexadecimal.specs.declared.reading.DecodeError.TheVariants.{OddLength, NotADigit, NoMemory}
 
 -- the digit of a number below 16, lower-case, as a character code
 abbrev pub digit : ℕ → ℕ

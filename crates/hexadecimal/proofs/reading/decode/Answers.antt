@@ -1,8 +1,8 @@
 use Rattle.std.proofs.Common.{◌≡◌, ◌+◌, ◌-◌, ◌*◌, true, [], ◌∷◌, ◌++◌, length, is_ok, vec_items, sym, ◌∙◌, subst, inr, arith, rules}
 use Rattle.std.proofs.lemmas.Result.{err_from_is_err_and}
 use Rattle.std.proofs.lemmas.Bool.{cond-true}
-use Rattle.hex.proofs.Decoding.{Read, read_none, read_more, stopped, stopped_next, odd_end, read_all}
-use Rattle.hex.proofs.reading.decode.Goals as goal
+use Rattle.hexadecimal.proofs.Decoding.{Read, read_none, read_more, stopped, stopped_next, odd_end, read_all}
+use Rattle.hexadecimal.proofs.reading.decode.Goals as goal
 
 pub loop-k-init : goal.loop-k-init
 loop-k-init c = rw c.new-bytes.ensures.items (read_none c.args.text.now)

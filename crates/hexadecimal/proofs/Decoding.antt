@@ -5,8 +5,8 @@ use Rattle.std.specs.List.{prefix_len}
 use Rattle.std.proofs.lemmas.List.{append-nil, append_assoc, drop_more, drop_all}
 use Rattle.std.proofs.lemmas.List.Sums.{prefix_len-drop_yes, prefix_len-drop_no}
 use Rattle.std.proofs.lemmas.Bool.{lt-ltb, le-ltb, cond-true, cond-false}
-use Rattle.hex.specs.declared.reading.DecodeError.TheVariants.{OddLength, NotADigit}
-use Rattle.hex.specs.Hex.{value, is_digit, byte_before, bytes_of, error_of, Refused}
+use Rattle.hexadecimal.specs.declared.reading.DecodeError.TheVariants.{OddLength, NotADigit}
+use Rattle.hexadecimal.specs.Hex.{value, is_digit, byte_before, bytes_of, error_of, Refused}
 
 -- of a text that begins with i digits, bs are the bytes of these
 pub record Read (text bs : List ℕ) (i : ℕ) : Type 0 where

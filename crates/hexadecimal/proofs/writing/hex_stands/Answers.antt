@@ -1,7 +1,7 @@
 use Rattle.std.proofs.Common.{◌≡◌, ℕ, ◌+◌, ◌*◌, ◌/◌, ◌%◌, ◌<◌, [], ◌∷◌, Some, refl, ap, ◌∙◌, arith}
 use Rattle.std.proofs.lemmas.Bool.Decides.{nat_tests}
-use Rattle.hex.specs.Hex.{digit, value, byte_before, ReadsBack}
-use Rattle.hex.proofs.writing.hex_stands.Goals as goal
+use Rattle.hexadecimal.specs.Hex.{digit, value, byte_before, ReadsBack}
+use Rattle.hexadecimal.proofs.writing.hex_stands.Goals as goal
 
 value_digit : (v : ℕ) → v < 16 → value (digit v) ≡ Some v
 value_digit v lt = grind (arith, nat_tests)

@@ -1,8 +1,8 @@
 use Rattle.std.proofs.Common.{◌≡◌, ◌+◌, true, [], ◌++◌, get_or, take, is_ok, sym, ap, ◌∙◌, rules}
 use Rattle.std.proofs.Output.{has_written_append, has_written_of_eq}
 use Rattle.std.proofs.lemmas.List.{flat_map_more, take_more, take_all}
-use Rattle.hex.specs.Hex.{digits, digits_of}
-use Rattle.hex.proofs.writing.HexDisplay.fmt.Goals as goal
+use Rattle.hexadecimal.specs.Hex.{digits, digits_of}
+use Rattle.hexadecimal.proofs.writing.HexDisplay.fmt.Goals as goal
 
 pub loop-b-preserved : goal.loop-b-preserved
 loop-b-preserved g c plain =

@@ -1,6 +1,6 @@
 //! Bytes, read from hexadecimal text.
 ghost use Rattle.std.specs.Prelude.{◌≡◌, ◌<◌, ◌⊎◌, length, IfSome, Some, None, MatchResult, slice_index};
-ghost use Rattle.hex.specs.Hex.{value, bytes_of, Refused, error_line};
+ghost use Rattle.hexadecimal.specs.Hex.{value, bytes_of, Refused, error_line};
 
 use std::alloc::Global;
 use std::error::Error;

@@ -1,7 +1,7 @@
 use Rattle.std.proofs.Common.{take}
 use Rattle.std.specs.Fmt.{IsPlainFormatter, HasWritten}
-use Rattle.hex.specs.Hex.{digits_of}
-use Rattle.hex.proofs.writing.HexDisplay.fmt.Given as goal
+use Rattle.hexadecimal.specs.Hex.{digits_of}
+use Rattle.hexadecimal.proofs.writing.HexDisplay.fmt.Given as goal
 
 abbrev pub invariant-loop-b : goal.invariant-loop-b
 invariant-loop-b g l = IsPlainFormatter l.initial.f → HasWritten g.W.Write.write_str_gives l.initial.f (digits_of (take l.b-index l.self.0.now)) l.f

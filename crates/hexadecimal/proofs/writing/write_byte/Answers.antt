@@ -2,8 +2,8 @@ use Rattle.std.proofs.Common.{◌≡◌, [], ◌∷◌, ◌++◌, is_ok, ap, ◌
 use lib.Utf8.{encode}
 use Rattle.std.proofs.Output.{writes_on_IsOk-append, has_written_of_eq}
 use Rattle.std.proofs.lemmas.Str.Ascii.{encode_ascii}
-use Rattle.hex.specs.Hex.{digits}
-use Rattle.hex.proofs.writing.write_byte.Goals as goal
+use Rattle.hexadecimal.specs.Hex.{digits}
+use Rattle.hexadecimal.proofs.writing.write_byte.Goals as goal
 
 pub returns : goal.returns
 returns g c plain ok =

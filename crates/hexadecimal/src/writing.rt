@@ -1,7 +1,7 @@
 //! Bytes, printed as hexadecimal text.
 ghost use Rattle.std.specs.Prelude.{◌≡◌, ◌<◌, Some};
 ghost use Rattle.std.specs.Fmt.{WritesOnOk};
-ghost use Rattle.hex.specs.Hex.{digit, digits, digits_of, ReadsBack};
+ghost use Rattle.hexadecimal.specs.Hex.{digit, digits, digits_of, ReadsBack};
 
 use std::fmt;
 
