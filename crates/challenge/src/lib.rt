@@ -1,4 +1,5 @@
 //! Challengers: the two questions of the audit, and what their answers choose.
+#![tactic(auto)]
 
 pub mod by_maker;
 pub mod challenger;

@@ -1,4 +1,5 @@
 //! Challengers and what they choose, on worked examples.
+#![tactic(auto)]
 
 pub mod script;
 pub mod scripted;

@@ -1,6 +1,8 @@
 //! What both challengers choose for known records. Each line of standard input is `KIND CHALLENGER ONE TWO HEADER SALT D1 D2` in
 //! hexadecimal, with `-` for the station values of a derived challenger; each line of output is the hidden parties, the flag bytes and
 //! the count of kept values.
+#![tactic(auto)]
+
 ghost use Rattle.std.specs.Prelude.{◌<◌};
 
 use anyhow::anyhow;

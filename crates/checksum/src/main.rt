@@ -1,4 +1,6 @@
 //! Prints the digests of standard input by both kinds: `shake256 HEX` and `sha512 HEX`.
+#![tactic(auto)]
+
 use digest::maker::DigestMaker;
 use keccak::shake256::Shake256;
 use sha512::stretched::Stretched;

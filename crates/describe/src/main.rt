@@ -1,4 +1,6 @@
 //! Takes the record on standard input apart: a line for each field, `OFFSET LENGTH NAME VALUE`, or the refusal.
+#![tactic(auto)]
+
 use protocol::field::Field;
 use protocol::header::Header;
 use record::header::read_record;

@@ -1,8 +1,7 @@
 -- What takes and draws within the limit come to.
-use Rattle.std.proofs.Common.{◌≡◌, ℕ, zero, suc, ◌+◌, ◌*◌, ◌<◌, ◌≤◌, true, cond, ltb, List, [], ◌∷◌, ◌++◌, length, is_ok, Ok, Err, Result, sym, refl, ap, ◌∙◌, subst, add-one, arith, MatchResult}
-use Rattle.std.proofs.lemmas.List.{append_assoc, append-nil, length-append}
+use Rattle.std.proofs.Common.{◌≡◌, ℕ, zero, suc, ◌+◌, ◌*◌, ◌≤◌, true, cond, ltb, List, [], ◌++◌, length, is_ok, Ok, Err, Result, sym, refl, ap, ◌∙◌, subst, add-one, arith, MatchResult}
+use Rattle.std.proofs.lemmas.List.{append_assoc, length-append}
 use Rattle.std.proofs.lemmas.Bool.{le-ltb}
-use Rattle.std.specs.List.{flat_map}
 use Rattle.protocol.specs.declared.fault.Fault.{Fault}
 use Rattle.protocol.specs.declared.fault.Fault.TheVariants.{Turn, PastLimit}
 use Rattle.protocol.specs.Sharing.{parts}

@@ -1,4 +1,5 @@
 //! What a digest maker is, and digests of texts by any maker.
+#![tactic(auto)]
 
 pub mod maker;
 pub mod parts;

@@ -1,5 +1,7 @@
 //! Brings both kinds of maker to their limit, 4,294,967,295 bytes taken and as many drawn, and prints what they answer there: each line
 //! is the numbers of the refusals of some calls in a row, 0 for an accepted one.
+#![tactic(auto)]
+
 use digest::maker::{DigestMaker, LIMIT};
 use keccak::shake256::Shake256;
 use protocol::fault::Fault;

@@ -1,5 +1,7 @@
 //! Digests of known texts by both kinds of maker, to be held to the values of other tools: texts of 0 to 300 bytes, texts that are
 //! taken and streams that are drawn in uneven pieces, long streams; and SHAKE128 of texts of 0 to 400 bytes.
+#![tactic(auto)]
+
 use anyhow::anyhow;
 use digest::maker::DigestMaker;
 use keccak::shake128::shake128;

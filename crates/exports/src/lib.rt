@@ -1,4 +1,6 @@
 //! The digests, and a row of a product, as C functions, for benchmarks and tests from other languages.
+#![tactic(auto)]
+
 pub mod product;
 
 ghost use Rattle.std.specs.Prelude.{◌≡◌, length, is_ok, MatchBool};

@@ -1,31 +1,28 @@
 -- What open writes, lodge accepts with open's answers.
-use Rattle.std.proofs.Common.{◌≡◌, ℕ, zero, suc, ◌+◌, ◌-◌, ◌*◌, ◌/◌, ◌%◌, ◌^◌, ◌<◌, ◌≤◌, Bool, true, false, cond, not, ◌&&◌, eqb, ltb, leb, List, [], ◌∷◌, ◌++◌, map, length, get_or, take, Ok, Err, Result, sym, refl, ap, ◌∙◌, subst, arith}
-use Rattle.std.specs.List.{AllByRecursion as All}
+use Rattle.std.proofs.Common.{◌≡◌, ℕ, ◌+◌, ◌*◌, ◌<◌, ◌≤◌, not, ◌&&◌, eqb, List, [], ◌∷◌, ◌++◌, length, get_or, take, Ok, sym, ap, ◌∙◌, subst, arith}
 use Rattle.std.proofs.lemmas.List.{get_or-take, take_all}
 use Rattle.std.proofs.lemmas.List.FromFn.{length-map-range_with_len}
 use Rattle.std.proofs.lemmas.Bool.{le-ltb, not-false, eqb-true, eq-eqb, not_from_true}
-use Rattle.protocol.specs.declared.fault.Fault.{Fault}
 use Rattle.protocol.specs.Parameters.{Parameters}
-use Rattle.guarantee.proofs.Passing.{Passes, accepted, passed, after_ok, append_passes}
+use Rattle.guarantee.proofs.Passing.{Passes, accepted, passed, after_ok}
 use Rattle.guarantee.proofs.Books.{holds_held}
 use Rattle.guarantee.proofs.Heads.{bare_passes}
 use Rattle.guarantee.proofs.Keeping.{same_when, kept, custody}
 use Rattle.guarantee.proofs.Extracting.{after_passed, not_differ, header_take, extraction}
 use Rattle.guarantee.proofs.Opening.{Ready, r_long, header_part, salt_part, d1_part, d2_part, six_honest, seven_honest, body_passes}
-use Rattle.protocol.specs.Book.{State, entries_of, appended, lodges, room_tests, body_tests, digest_tests}
-use Rattle.protocol.specs.Bytes.{word, part}
-use Rattle.protocol.specs.Ceremony.{Committed, Keyed, commits, keys, key_tests, with_d2, opens, open_tests, memory_test, output_test, text_six, text_seven, opening, hides, before_key, record_bytes}
-use Rattle.protocol.specs.Entry.{Entry, transcript, setting_of, chosen, rebuilt6, rebuilt7, salt_of, d1_of, d2_of}
-use Rattle.protocol.specs.Guarantee.{Completeness, Guaranteed, Guarantee}
+use Rattle.protocol.specs.Book.{State, appended, lodges, room_tests, body_tests, digest_tests}
+use Rattle.protocol.specs.Ceremony.{Committed, Keyed, key_tests, with_d2, open_tests, memory_test, text_six, text_seven, opening, hides, before_key, record_bytes}
+use Rattle.protocol.specs.Entry.{transcript, setting_of, chosen, rebuilt6, rebuilt7, salt_of, d1_of, d2_of}
+use Rattle.protocol.specs.Guarantee.{Completeness, Guarantee}
 use Rattle.protocol.specs.Header.{parameters_of, header_tests, bare_tests, limits, length-test, checks_header, reads_record}
 use Rattle.protocol.specs.Layout.{record_length, entry_length}
 use Rattle.protocol.specs.Parameters.{width, sigma, parties, work_words}
-use Rattle.protocol.specs.Runs.{Run, Commits, Keys, History, lodged, committed, key_refused, keyed, open_refused, opened}
+use Rattle.protocol.specs.Runs.{Commits, Keys, lodged, committed, key_refused, keyed, open_refused, opened}
 use Rattle.protocol.specs.Scheme.{setting, transcript_of}
 use Rattle.protocol.specs.Selection.{selected, hidden_parties}
-use Rattle.protocol.specs.Sharing.{Setting, Transcript, text6, text7}
+use Rattle.protocol.specs.Sharing.{text6, text7}
 use Rattle.protocol.specs.Streams.{Digest, First, Second, GivesBytes, first_bytes, drawn}
-use Rattle.protocol.specs.Tests.{Test, first_of, after}
+use Rattle.protocol.specs.Tests.{first_of, after}
 
 drawn_long : (F : Digest) (text : List ℕ) (n : ℕ) → length (drawn F text n) ≡ n
 unfolding first_bytes

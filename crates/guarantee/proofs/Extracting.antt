@@ -1,6 +1,6 @@
 -- Two entries of one commitment give a collision or the secret.
-use Rattle.std.proofs.Common.{◌≡◌, ℕ, zero, suc, ◌+◌, ◌-◌, ◌*◌, ◌/◌, ◌%◌, ◌^◌, ◌<◌, ◌≤◌, Bool, true, false, cond, not, ◌||◌, eqb, ltb, leb, ◌⊎◌, List, [], ◌∷◌, ◌++◌, map, length, get_or, take, drop, Ok, Err, Result, sym, refl, ap, ◌∙◌, subst, inl, inr, mod-lt, arith, length-append, length-drop}
-use Rattle.std.specs.List.{flat_map, common_prefix_len, AllByRecursion as All}
+use Rattle.std.proofs.Common.{◌≡◌, ℕ, zero, suc, ◌+◌, ◌-◌, ◌*◌, ◌/◌, ◌%◌, ◌<◌, ◌≤◌, false, not, eqb, List, [], ◌∷◌, ◌++◌, length, get_or, take, drop, Ok, Result, sym, refl, ap, ◌∙◌, subst, inl, inr, mod-lt, arith, length-append, length-drop}
+use Rattle.std.specs.List.{common_prefix_len, AllByRecursion as All}
 use Rattle.std.specs.Str.{bytes_eq}
 use Rattle.std.proofs.lemmas.List.{get_or-take, length-take-le, take-take, drop-take, drop-drop, drop_at, take_all, drop-append-le, take-append-le}
 use Rattle.std.proofs.ByRecursion.{All-get_or}
@@ -13,7 +13,7 @@ use Rattle.guarantee.proofs.Passing.{Passes, passed}
 use Rattle.guarantee.proofs.Books.{holds_held}
 use Rattle.guarantee.proofs.Keeping.{WellFormed, Checked, kept}
 use Rattle.guarantee.proofs.Reading.{get_d_part, fits, key_is, offset_is, audited_is, length-seed}
-use Rattle.guarantee.proofs.Lengths.{length-six, length-seven, Differ, differ, not_same}
+use Rattle.guarantee.proofs.Lengths.{length-six, length-seven, differ, not_same}
 use Rattle.soundness.proofs.Sums.{total_same}
 use Rattle.soundness.proofs.Residues.{modular_lawful}
 use Rattle.soundness.proofs.Indices.{lists_ones}
@@ -22,19 +22,18 @@ use Rattle.soundness.proofs.Fields.{Agree, agree}
 use Rattle.soundness.proofs.Scheme as scheme
 use Rattle.soundness.proofs.Scheme.{Reveals, modulus_some, modulus_small}
 use Rattle.soundness.proofs.Positions.{length-parts_of, parts_at, commitments_listed}
-use Rattle.protocol.specs.Book.{no_entry, State, entries_of, missing_test, pair_tests, digest_tests, Recovered, compared, recovered_bytes, common_part, recovered_length, recovers}
+use Rattle.protocol.specs.Book.{no_entry, entries_of, missing_test, pair_tests, digest_tests, compared, recovered_bytes, common_part, recovered_length, recovers}
 use Rattle.protocol.specs.Bytes.{word, part}
 use Rattle.protocol.specs.Entry.{Entry, transcript, setting_of, rebuilt6, rebuilt7, salt_of, d1_of, d2_of}
-use Rattle.protocol.specs.Extractor.{joint_seeds, value_of, Shows}
-use Rattle.protocol.specs.Flags.{kept_index, ones}
+use Rattle.protocol.specs.Extractor.{joint_seeds, value_of}
+use Rattle.protocol.specs.Flags.{kept_index}
 use Rattle.protocol.specs.Group.{total}
-use Rattle.protocol.specs.Guarantee.{Collision, Opens, Extracts, Extraction, audited_value, commitment_at, seed_in, value_in}
+use Rattle.protocol.specs.Guarantee.{Collision, Opens, Extraction, seed_in, value_in}
 use Rattle.protocol.specs.Header.{parameters_of}
-use Rattle.protocol.specs.Parameters.{modulus, bound, sigma, parties, work_words}
+use Rattle.protocol.specs.Parameters.{modulus, sigma, parties, work_words}
 use Rattle.protocol.specs.Residues.{matrix, modular, residue, residue_in, dot}
-use Rattle.protocol.specs.Runs.{Run}
 use Rattle.protocol.specs.Scheme.{setting, transcript_of}
-use Rattle.protocol.specs.Sharing.{Setting, Transcript, Fits, parts, text6, text7}
+use Rattle.protocol.specs.Sharing.{Fits, parts, text6, text7}
 use Rattle.protocol.specs.Streams.{Digest, drawn}
 use Rattle.protocol.specs.Tests.{Test, first_of, after}
 use Rattle.protocol.specs.Texts.{leaf_text}

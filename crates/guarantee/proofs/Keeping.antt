@@ -1,28 +1,27 @@
 -- Every entry of a book that calls made passes its tests with the answers that it stores.
-use Rattle.std.proofs.Common.{◌≡◌, ℕ, zero, suc, ◌+◌, ◌-◌, ◌*◌, ◌^◌, ◌<◌, ◌≤◌, Bool, true, false, not, eqb, ltb, List, [], ◌∷◌, ◌++◌, length, get_or, take, Ok, Err, Result, sym, refl, ap, ◌∙◌, subst, arith}
+use Rattle.std.proofs.Common.{◌≡◌, ℕ, ◌+◌, ◌<◌, ◌≤◌, true, false, not, eqb, List, [], ◌∷◌, length, get_or, Ok, sym, refl, ◌∙◌, subst, arith}
 use Rattle.std.specs.List.{AllByRecursion as All}
 use Rattle.std.specs.Str.{bytes_eq}
 use Rattle.std.proofs.ByRecursion.{All-push, All-get_or}
 use Rattle.std.proofs.lemmas.Slice.Eq.{bytes_eq-Decides}
 use Rattle.std.proofs.lemmas.Bool.{not-false, ltb-false, eqb-true}
 use Rattle.std.proofs.lemmas.Nat.{pow_pos}
-use Rattle.protocol.specs.declared.fault.Fault.{Fault}
 use Rattle.protocol.specs.Parameters.{Parameters}
 use Rattle.guarantee.proofs.Passing.{Passes, accepted, after_ok}
-use Rattle.guarantee.proofs.Choosing.{Picked, selected_picked, length-hidden, hidden_below}
+use Rattle.guarantee.proofs.Choosing.{selected_picked, length-hidden, hidden_below}
 use Rattle.guarantee.proofs.Counting.{ones_packed}
 use Rattle.guarantee.proofs.Heads.{Facts, facts, due_fits}
 use Rattle.guarantee.proofs.Books.{Told, Holds, holds_held, holds_more, length-entry}
-use Rattle.protocol.specs.Book.{no_entry, State, empty, appended, entries_of, entry_bytes, lodges, body_tests, digest_tests, room_tests}
+use Rattle.protocol.specs.Book.{no_entry, State, lodges, body_tests, digest_tests, room_tests}
 use Rattle.protocol.specs.Entry.{Entry, chosen, rebuilt6, rebuilt7, salt_of, d1_of, d2_of}
 use Rattle.protocol.specs.Guarantee.{Custody}
 use Rattle.protocol.specs.Flags.{ones}
 use Rattle.protocol.specs.Header.{parameters_of, header_tests, length-test, reads_header, reads_record}
 use Rattle.protocol.specs.Layout.{record_length, entry_length}
-use Rattle.protocol.specs.Parameters.{sigma, parties, work_words, flag_length}
+use Rattle.protocol.specs.Parameters.{sigma, parties}
 use Rattle.protocol.specs.Runs.{Run, began, lodged, refused, read, recovered}
 use Rattle.protocol.specs.Streams.{Digest, First, Second, drawn}
-use Rattle.protocol.specs.Tests.{Test, first_of, after}
+use Rattle.protocol.specs.Tests.{first_of, after}
 
 -- an entry that lodge let in, but for its digests
 pub record WellFormed (a : Entry) : Type 0 where

@@ -1,12 +1,12 @@
 -- Entries that are alike wherever a text looks have the same texts.
-use Rattle.std.proofs.Common.{◌≡◌, ℕ, zero, suc, ◌+◌, ◌-◌, ◌*◌, ◌<◌, ◌≤◌, Bool, true, false, cond, eqb, ◌⊎◌, List, [], ◌∷◌, ◌++◌, map, length, get_or, ℤ, pos, sym, refl, ap, ◌∙◌, subst, inl, inr, arith}
+use Rattle.std.proofs.Common.{◌≡◌, ℕ, ◌<◌, cond, eqb, [], ◌∷◌, ◌++◌, get_or, pos, sym, ap, ◌∙◌, inl, inr}
 use Rattle.std.specs.List.{flat_map}
 use Rattle.std.proofs.lemmas.Bool.{cond-true, cond-false, cases_eq, eq-eqb, ne_eqb}
 use Rattle.soundness.proofs.Sums.{others_same}
 use Rattle.soundness.proofs.Parts.{parts_same}
 use Rattle.protocol.specs.Extractor.{Sound}
 use Rattle.protocol.specs.Flags.{audited_before}
-use Rattle.protocol.specs.Group.{Entries, Lawful, others, completed}
+use Rattle.protocol.specs.Group.{Entries, Lawful, completed}
 use Rattle.protocol.specs.Sharing.{Setting, Transcript, parts, corrected, product_of, value_at, commitment, audited_share, product_share, committed_part, party_part, text6, text7}
 
 pub record Alike {G : Type 0} (s : Setting G) (x y : Transcript G) : Type 0 where

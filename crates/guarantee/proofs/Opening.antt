@@ -1,11 +1,11 @@
 -- The record that open writes, read back.
-use Rattle.std.proofs.Common.{◌≡◌, ℕ, zero, suc, ◌+◌, ◌-◌, ◌*◌, ◌/◌, ◌%◌, ◌^◌, ◌<◌, ◌≤◌, Bool, true, false, cond, eqb, leb, List, [], ◌∷◌, ◌++◌, map, length, get_or, take, drop, ℤ, pos, sym, refl, ap, ◌∙◌, subst, mod-lt, add-one, arith, length-append, length-drop}
+use Rattle.std.proofs.Common.{◌≡◌, ℕ, zero, suc, ◌+◌, ◌-◌, ◌*◌, ◌/◌, ◌%◌, ◌^◌, ◌<◌, ◌≤◌, List, [], ◌∷◌, ◌++◌, map, length, get_or, take, drop, ℤ, pos, sym, refl, ap, ◌∙◌, subst, mod-lt, add-one, arith, length-append}
 use Rattle.std.specs.List.{range_with_len, flat_map, AllByRecursion as All}
-use Rattle.std.proofs.lemmas.List.{length-map, drop-drop, drop_at, take_at, take_all, get_or-map, drop-append-le, take-append-le}
+use Rattle.std.proofs.lemmas.List.{length-map, drop-drop, drop_at, take_at, take_all, get_or-map}
 use Rattle.std.proofs.ByRecursion.{All-get_or, All-weaker}
 use Rattle.std.proofs.lemmas.List.FromFn.{get_or-map-range_with_len, length-map-range_with_len, fill_by_all}
 use Rattle.std.proofs.lemmas.Bool.{cond-false, ne_eqb, lt-leb}
-use Rattle.std.proofs.lemmas.Nat.{mul-le, pow_pos}
+use Rattle.std.proofs.lemmas.Nat.{pow_pos}
 use Rattle.protocol.specs.Parameters.{Parameters}
 use Rattle.guarantee.proofs.Passing.{Passes, all_tests, all_of, append_passes}
 use Rattle.guarantee.proofs.Choosing.{Picked, selected_picked, hidden_below}
@@ -18,22 +18,20 @@ use Rattle.soundness.proofs.Trees.{regrows}
 use Rattle.soundness.proofs.Positions.{length-parts_of, parts_at}
 use Rattle.soundness.proofs.Scheme.{setting_sound, completes, modulus_some, modulus_small}
 use Rattle.soundness.proofs.Fitting.{length_part}
-use Rattle.protocol.specs.Book.{body_tests, key_range_tests, audited_range_tests, offset_range_tests, residue_test}
+use Rattle.protocol.specs.Book.{body_tests, key_range_tests, audited_range_tests, offset_range_tests}
 use Rattle.protocol.specs.Bytes.{word, part}
-use Rattle.protocol.specs.Ceremony.{Committed, Keyed, root, secret, text_six, text_seven, opening, hides, block, before_key, record_bytes}
+use Rattle.protocol.specs.Ceremony.{Keyed, root, text_six, text_seven, opening, hides, block, before_key, record_bytes}
 use Rattle.protocol.specs.Entry.{setting_of}
-use Rattle.protocol.specs.Flags.{ones, audited_before, audited_of}
+use Rattle.protocol.specs.Flags.{audited_of}
 use Rattle.protocol.specs.Header.{parameters_of, header_tests}
 use Rattle.protocol.specs.Layout.{record_length, block_length}
-use Rattle.protocol.specs.Parameters.{modulus, bound, table, sigma, parties}
-use Rattle.protocol.specs.Prover.{Secret, Shaped, offsets, key, honest6, honest7, opened}
-use Rattle.protocol.specs.Residues.{matrix, modular}
-use Rattle.protocol.specs.Sampling.{sampled, byte_of, Within, beyond, signed}
-use Rattle.protocol.specs.Scheme.{setting, words, seeds_of, transcript_of}
-use Rattle.protocol.specs.Selection.{selected, hidden_parties}
+use Rattle.protocol.specs.Parameters.{modulus, bound, sigma, parties}
+use Rattle.protocol.specs.Prover.{Secret, Shaped, offsets, key, honest6, opened}
+use Rattle.protocol.specs.Residues.{modular}
+use Rattle.protocol.specs.Sampling.{byte_of, Within, signed}
+use Rattle.protocol.specs.Scheme.{words, seeds_of, transcript_of}
 use Rattle.protocol.specs.Sharing.{Setting, Transcript, Fits, parts, text6, text7}
-use Rattle.protocol.specs.Streams.{Digest, First, Second, GivesBytes, first_bytes, drawn}
-use Rattle.protocol.specs.Tests.{Test}
+use Rattle.protocol.specs.Streams.{Digest, First, Second, GivesBytes, first_bytes}
 use Rattle.protocol.specs.Texts.{leaf_text, text3}
 use Rattle.protocol.specs.Tree.{seed_at, siblings, regrown, beside, above, child}
 use Rattle.guarantee.proofs.Offsets.{audited_at, block_at, key_at, offsets_at}

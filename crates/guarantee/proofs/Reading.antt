@@ -1,7 +1,7 @@
 -- The fields of a checked record, from its bytes.
-use Rattle.std.proofs.Common.{◌≡◌, ℕ, zero, suc, ◌+◌, ◌-◌, ◌*◌, ◌/◌, ◌%◌, ◌^◌, ◌<◌, ◌≤◌, Bool, true, false, cond, eqb, ltb, leb, ◌⊎◌, List, [], ◌∷◌, ◌++◌, map, length, get_or, take, drop, ℤ, pos, negsuc, sym, refl, ap, ◌∙◌, subst, inl, inr, add-one, arith, length-drop}
+use Rattle.std.proofs.Common.{◌≡◌, ℕ, zero, suc, ◌+◌, ◌-◌, ◌*◌, ◌/◌, ◌%◌, ◌^◌, ◌<◌, ◌≤◌, false, eqb, List, [], length, get_or, take, drop, ℤ, pos, negsuc, sym, refl, ap, ◌∙◌, subst, inl, inr, add-one, arith}
 use Rattle.std.specs.List.{range_with_len, flat_map, AllByRecursion as All}
-use Rattle.std.proofs.lemmas.List.{get_or-take, get_or-drop, get_or-map, length-map, length-take-le, take_all}
+use Rattle.std.proofs.lemmas.List.{get_or-take, get_or-drop, get_or-map, take_all}
 use Rattle.std.proofs.ByRecursion.{All-from_get_or}
 use Rattle.std.proofs.lemmas.List.FromFn.{get_or-map-range_with_len, length-map-range_with_len}
 use Rattle.std.proofs.lemmas.Bool.{leb-false, ltb-false, cond-true, cond-false, cond_both, cases_Bool, cases_eq, eqb-true, ne_eqb, eqb-false}
@@ -11,20 +11,19 @@ use Rattle.guarantee.proofs.Passing.{Passes, front, each_test, each_of}
 use Rattle.guarantee.proofs.Keeping.{WellFormed}
 use Rattle.soundness.proofs.Fitting.{length_part, read_fits}
 use Rattle.soundness.proofs.Indices.{ones_more_yes, ones_more_no}
-use Rattle.protocol.specs.Book.{body_tests, key_range_tests, audited_range_tests, offset_range_tests, residue_test}
+use Rattle.protocol.specs.Book.{body_tests, key_range_tests, audited_range_tests, offset_range_tests}
 use Rattle.protocol.specs.Bytes.{word, part}
 use Rattle.protocol.specs.Entry.{Entry, setting_of, transcript}
 use Rattle.protocol.specs.Flags.{ones, audited_before}
 use Rattle.protocol.specs.Guarantee.{audited_value}
 use Rattle.protocol.specs.Header.{parameters_of}
-use Rattle.protocol.specs.Layout.{record_length, block_length}
-use Rattle.protocol.specs.Parameters.{modulus, bound, sigma, parties}
-use Rattle.protocol.specs.Residues.{matrix}
+use Rattle.protocol.specs.Layout.{block_length}
+use Rattle.protocol.specs.Parameters.{modulus, bound, sigma}
 use Rattle.protocol.specs.Texts.{text3}
 use Rattle.protocol.specs.Sampling.{Within, beyond, signed}
 use Rattle.protocol.specs.Scheme.{words, seeds_of, transcript_of}
-use Rattle.protocol.specs.Sharing.{Setting, Transcript, Fits, value_at}
-use Rattle.protocol.specs.Streams.{Digest, first_bytes, drawn}
+use Rattle.protocol.specs.Sharing.{Fits, value_at}
+use Rattle.protocol.specs.Streams.{Digest, first_bytes}
 use Rattle.protocol.specs.Tree.{child, regrown, above}
 use Rattle.guarantee.proofs.Offsets.{audited_at, block_at, key_at, offsets_at}
 

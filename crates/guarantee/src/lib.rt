@@ -1,5 +1,7 @@
 //! The promise of the whole product, proved over its definitions: for any list of calls on a book, and any ceremony.
 //! Each function only carries a theorem on its contract; the proofs are in proofs/.
+#![tactic(auto)]
+
 ghost use Rattle.protocol.specs.Streams.{Digest, GivesBytes};
 ghost use Rattle.protocol.specs.Examples.{ExamplesHold};
 ghost use Rattle.protocol.specs.Guarantee.{Custody, Completeness, Extraction, Guarantee};

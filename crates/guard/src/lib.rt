@@ -1,4 +1,6 @@
 //! A guard over the working memory of a call: whichever way the call ends, the memory is left zeroed.
+#![tactic(auto)]
+
 ghost use Rattle.std.specs.Prelude.{◌≡◌};
 ghost use Rattle.protocol.specs.Effects.{wiped};
 

@@ -1,7 +1,7 @@
 -- The instance, by computation.
-use Rattle.std.proofs.Common.{◌≡◌, ℕ, ◌+◌, ◌*◌, ◌/◌, ◌%◌, refl, subst, arith}
+use Rattle.std.proofs.Common.{◌+◌, ◌*◌, ◌/◌, refl, subst, arith}
 use Rattle.std.proofs.lemmas.Nat.{mod_below}
-use Rattle.protocol.specs.Streams.{GivesBytes, first_bytes, drawn}
+use Rattle.protocol.specs.Streams.{GivesBytes, first_bytes}
 use Rattle.protocol.specs.Flags.{packed, unpacked}
 use Rattle.protocol.specs.Selection.{selected, hidden_parties}
 use Rattle.protocol.specs.Sharing.{text6, text7}

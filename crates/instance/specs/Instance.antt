@@ -1,19 +1,19 @@
 -- A ceremony that is opened twice, lodged and recovered under the toy function: the definitions come to the bytes that an independent
 -- program gives, and every hypothesis of the guarantee is met by something.
-use Rattle.std.specs.Prelude.{◌≡◌, ℕ, ◌*◌, ◌≤◌, List, [], ◌∷◌, ◌++◌, length, get_or, take, replicate, Ok, Err, Result, slice_index, slice_index_or, slice_set}
+use Rattle.std.specs.Prelude.{◌≡◌, ℕ, ◌*◌, List, [], ◌∷◌, ◌++◌, get_or, take, replicate, Ok, Err, Result, slice_index, slice_index_or, slice_set}
 use Rattle.std.specs.List.{AllByRecursion as All}
 use Rattle.protocol.specs.declared.fault.Fault.{Fault}
 use Rattle.protocol.specs.declared.fault.Fault.TheVariants as fault
 use Rattle.protocol.specs.declared.fault.Layer.{Layer}
 use Rattle.protocol.specs.Faults.{number, place, layer}
 use Rattle.protocol.specs.Bytes.{part}
-use Rattle.protocol.specs.Streams.{Digest, GivesBytes}
-use Rattle.protocol.specs.Entry.{Entry, chosen}
+use Rattle.protocol.specs.Streams.{GivesBytes}
+use Rattle.protocol.specs.Entry.{chosen}
 use Rattle.protocol.specs.Ceremony.{Committed, Keyed, commits, keys, key_bytes, opens, record_bytes}
-use Rattle.protocol.specs.Book.{State, empty, appended, entries_of, no_entry, read_bytes, lodges, reads, Recovered, recovers, common_part}
+use Rattle.protocol.specs.Book.{State, empty, appended, entries_of, no_entry, read_bytes, lodges, reads, recovers, common_part}
 use Rattle.protocol.specs.Runs.{Run, History}
 use Rattle.instance.specs.Toy.{mix, first, second}
-use Rattle.instance.specs.Values.{Spoiled, spoiled, twice, the_header, the_salt, the_master, the_attributes, the_seed_a, the_d1, the_d2, the_key, first_record, second_record, the_memory, the_recovered, other_attributes, other_text6_record, text6_differs_at, other_seed_a, other_text7_record, text7_differs_at, both_differ_record, other_d2_record, spoiled_records, twice_spoiled}
+use Rattle.instance.specs.Values.{Spoiled, spoiled, twice, the_header, the_salt, the_master, the_attributes, the_seed_a, the_d1, the_d2, the_key, first_record, second_record, the_memory, the_recovered, other_text6_record, text6_differs_at, other_text7_record, text7_differs_at, both_differ_record, other_d2_record, spoiled_records, twice_spoiled}
 
 -- W of the header, the bytes of an entry, and more output than any call needs
 abbrev pub work : ℕ

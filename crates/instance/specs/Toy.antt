@@ -1,5 +1,5 @@
 -- A toy digest function, simple enough to compute and weak enough to collide: a polynomial of the text, and a line of it by position.
-use Rattle.std.specs.Prelude.{ℕ, ◌+◌, ◌*◌, ◌/◌, ◌%◌, List, [], ◌∷◌, ◌++◌}
+use Rattle.std.specs.Prelude.{ℕ, ◌+◌, ◌*◌, ◌/◌, ◌%◌, List, [], ◌∷◌}
 use Rattle.protocol.specs.Streams.{Digest, First, Second}
 use Rattle.protocol.specs.Texts.{derived_first, derived_second}
 

@@ -1,4 +1,6 @@
 //! The guarantee is about something: one ceremony under a toy digest function, computed from the definitions.
+#![tactic(auto)]
+
 ghost use Rattle.instance.specs.Instance.{Calls, Collisions, Witness, SpoiledRefused, Refusals};
 
 /// Every call, accepted, comes to the bytes that an independent program gives.

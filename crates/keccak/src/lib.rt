@@ -1,4 +1,5 @@
 //! Keccak-f[1600] and the sponge on it: SHAKE256 as a digest maker, and SHAKE128 of a text.
+#![tactic(auto)]
 
 pub mod block;
 pub mod giving;

@@ -1,5 +1,5 @@
 -- The size of a value, and its sign.
-use Rattle.std.proofs.Common.{◌≡◌, ℕ, zero, suc, ◌+◌, ◌-◌, ◌/◌, ◌%◌, ◌<◌, ◌≤◌, Bool, true, false, cond, eqb, ltb, ◌⊎◌, List, [], ◌∷◌, ◌++◌, length, get_or, take, ℤ, pos, negsuc, ◌-ℤ◌, neg_ℤ, count_by, sym, refl, ap, ◌∙◌, subst, inl, inr, arith, w8, to_z, of_z}
+use Rattle.std.proofs.Common.{◌≡◌, ℕ, suc, ◌+◌, ◌-◌, ◌/◌, ◌%◌, ◌≤◌, Bool, true, false, cond, eqb, ltb, List, [], ◌∷◌, length, pos, ◌-ℤ◌, neg_ℤ, count_by, sym, refl, ap, ◌∙◌, arith, w8, to_z, of_z}
 use lib.Bits.{bit_and}
 use Rattle.std.proofs.lemmas.Int.{ints}
 use Rattle.std.proofs.lemmas.Nat.{and_mask}

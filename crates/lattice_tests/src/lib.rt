@@ -1,4 +1,5 @@
 //! Values, rows, products and sums on worked examples; the expected numbers were computed in Python.
+#![tactic(auto)]
 
 #[cfg(test)]
 mod tests {

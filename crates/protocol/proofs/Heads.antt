@@ -1,9 +1,9 @@
 -- A header's bytes and its numbers give each other back.
-use Rattle.std.proofs.Common.{◌≡◌, ℕ, ◌+◌, ◌*◌, ◌/◌, ◌%◌, ◌<◌, ◌≤◌, List, [], ◌∷◌, ◌++◌, map, length, get_or, take, sym, refl, ap, ◌∙◌, arith, length-take}
+use Rattle.std.proofs.Common.{◌≡◌, ℕ, ◌+◌, ◌*◌, ◌/◌, ◌%◌, ◌<◌, ◌≤◌, List, [], ◌∷◌, map, length, get_or, take, sym, ap, ◌∙◌, arith, length-take}
 use Rattle.std.specs.List.{range_with_len}
 use Rattle.std.proofs.lemmas.List.FromFn.{fill_by_all}
 use Rattle.std.proofs.lemmas.List.{get_or-take}
-use Rattle.protocol.specs.Bytes.{word, le16}
+use Rattle.protocol.specs.Bytes.{le16}
 use Rattle.protocol.specs.Header.{parameters_of, header_bytes}
 
 pub two_bytes : (b c : ℕ) → b < 256 → c < 256 → le16 (b + 256 * c) ≡ b ∷ c ∷ []

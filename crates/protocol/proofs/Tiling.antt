@@ -1,13 +1,12 @@
 -- The fields of a record, in their order, lie end to end, and which one stands at an index.
-use Rattle.std.proofs.Common.{◌≡◌, ℕ, zero, suc, ◌+◌, ◌-◌, ◌*◌, ◌/◌, ◌%◌, ◌<◌, ◌≤◌, List, [], ◌∷◌, ◌++◌, length, take, drop, None, sym, refl, ap, ◌∙◌, subst, ⊎_elim, append_assoc, append-nil, suc-mul, arith, length-append, take-append-drop}
+use Rattle.std.proofs.Common.{◌≡◌, ℕ, zero, suc, ◌+◌, ◌*◌, ◌<◌, ◌≤◌, List, [], ◌∷◌, ◌++◌, length, take, drop, None, sym, refl, ap, ◌∙◌, subst, ⊎_elim, append_assoc, append-nil, suc-mul, arith, length-append, take-append-drop}
 use Rattle.std.specs.List.{flat_map, slice_get}
 use Rattle.std.proofs.lemmas.Option.{slice_get_past}
 use Rattle.std.proofs.lemmas.Bool.{cases_eq}
 use Rattle.std.proofs.lemmas.List.{drop-drop, drop_all}
 use Rattle.protocol.specs.declared.field.Field.{Field}
 use Rattle.protocol.specs.declared.field.Field.TheVariants.{Commitment, Seeds, Offsets}
-use Rattle.protocol.specs.Bytes.{part}
-use Rattle.protocol.specs.Parameters.{Parameters, width, sigma}
+use Rattle.protocol.specs.Parameters.{Parameters}
 use Rattle.protocol.specs.Layout.{size, offset, block_length, blocks_at, record_length, block_fields, leading_fields, fields, field_part, FieldsTile}
 
 -- the fields of a list lie end to end, from one offset to another

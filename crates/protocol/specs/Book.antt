@@ -4,7 +4,6 @@ use Rattle.std.specs.List.{range_with_len, flat_map, common_prefix_len}
 use Rattle.std.specs.Str.{bytes_eq}
 use Rattle.protocol.specs.declared.fault.Fault.{Fault}
 use Rattle.protocol.specs.declared.fault.Fault.TheVariants as fault
-use Rattle.protocol.specs.declared.field.Field.{Field}
 use Rattle.protocol.specs.declared.field.Field.TheVariants.{Salt, Key, Audited, Offsets}
 use Rattle.protocol.specs.Bytes.{part, word, le32, value32}
 use Rattle.protocol.specs.Ceremony.{memory_test, output_test}

@@ -4,7 +4,6 @@ use Rattle.std.specs.List.{flat_map}
 use Rattle.std.specs.Str.{bytes_eq}
 use Rattle.protocol.specs.declared.fault.Fault.{Fault}
 use Rattle.protocol.specs.declared.fault.Fault.TheVariants.{Memory, Output, Rebuilt}
-use Rattle.protocol.specs.Bytes.{word}
 use Rattle.protocol.specs.Entry.{setting_of}
 use Rattle.protocol.specs.Flags.{kept_index, audited_of}
 use Rattle.protocol.specs.Header.{parameters_of, checks_header, length-test}
@@ -13,7 +12,7 @@ use Rattle.protocol.specs.Parameters.{Parameters, width, table, sigma, parties, 
 use Rattle.protocol.specs.Prover.{Secret, offsets, key, honest6, honest7}
 use Rattle.protocol.specs.Sampling.{sampled, byte_of}
 use Rattle.protocol.specs.Selection.{selected, hidden_parties}
-use Rattle.protocol.specs.Sharing.{Setting, parts}
+use Rattle.protocol.specs.Sharing.{parts}
 use Rattle.protocol.specs.Streams.{Digest, First, Second, drawn}
 use Rattle.protocol.specs.Tests.{Test, first_of, after}
 use Rattle.protocol.specs.Texts.{text1, text2}

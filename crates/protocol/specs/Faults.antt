@@ -1,5 +1,5 @@
 -- What each refusal says: its number, its place and its layer, and the line that is printed of it.
-use Rattle.std.specs.Prelude.{ℕ, List, ◌∷◌, ◌++◌, codes, decimal}
+use Rattle.std.specs.Prelude.{ℕ, List, ◌++◌, codes, decimal}
 use Rattle.protocol.specs.declared.fault.Fault.{Fault}
 use Rattle.protocol.specs.declared.fault.Fault.TheVariants.{Short, Mark, Version, Limit, Length, Residue, Audited, FirstDigest, SecondDigest, Memory, Rebuilt, Output, Full, Missing, Turn, PastLimit, Unequal, Repetition}
 use Rattle.protocol.specs.declared.fault.Layer.{Layer}

@@ -1,5 +1,5 @@
 -- Entries that add and subtract, and the sums over the parties.
-use Rattle.std.specs.Prelude.{◌≡◌, ℕ, zero, suc, ◌+◌, Bool, true, false, cond, List, length, ◌==◌}
+use Rattle.std.specs.Prelude.{◌≡◌, ℕ, zero, suc, cond, List, length, ◌==◌}
 
 -- one kind of entry: `norm` is an entry's normal form, `code` its bytes in a text
 pub record Entries (G : Type 0) : Type 0 where

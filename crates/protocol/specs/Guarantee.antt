@@ -1,6 +1,6 @@
 -- The guarantee: what was accepted is kept, honest records are accepted, and two openings of one commitment give the secret of the
 -- key, or a collision of the digest function. Nothing is assumed of F but that it gives bytes, and nothing of X.
-use Rattle.std.specs.Prelude.{◌≡◌, ℕ, ◌+◌, ◌-◌, ◌*◌, ◌%◌, ◌<◌, ◌≤◌, ◌⊎◌, List, [], ◌∷◌, ◌++◌, length, take, ℤ, Ok, Err, ◌≢◌, slice_index, slice_index_or}
+use Rattle.std.specs.Prelude.{◌≡◌, ℕ, ◌+◌, ◌*◌, ◌%◌, ◌<◌, ◌≤◌, ◌⊎◌, List, [], ◌∷◌, ◌++◌, length, take, ℤ, Ok, ◌≢◌, slice_index, slice_index_or}
 use Rattle.protocol.specs.declared.field.Field.TheVariants.{SeedA, Key, Audited, Offsets}
 use Rattle.protocol.specs.Bytes.{part, word}
 use Rattle.protocol.specs.Streams.{Digest, First, Second, GivesBytes, drawn}

@@ -1,5 +1,5 @@
 -- The numbers that a header fixes, and those that follow from them.
-use Rattle.std.specs.Prelude.{ℕ, ◌+◌, ◌-◌, ◌*◌, ◌/◌, ◌^◌, cond, List, [], ◌∷◌, ◌==◌}
+use Rattle.std.specs.Prelude.{ℕ, ◌+◌, ◌*◌, ◌/◌, ◌^◌, cond, List, [], ◌∷◌, ◌==◌}
 
 pub record Parameters : Type 0 where
   pub version : ℕ

@@ -1,5 +1,5 @@
 -- The texts that a holder of the values writes, and the transcript that its opening gives.
-use Rattle.std.specs.Prelude.{◌≡◌, ℕ, ◌+◌, ◌<◌, cond, List, [], ◌∷◌, ◌++◌, map, length, ℤ, ◌==◌, slice_index}
+use Rattle.std.specs.Prelude.{◌≡◌, ℕ, ◌<◌, cond, List, [], ◌∷◌, ◌++◌, map, length, ℤ, ◌==◌, slice_index}
 use Rattle.std.specs.List.{range_with_len, flat_map}
 use Rattle.protocol.specs.Flags.{ones, kept_index, audited_of}
 use Rattle.protocol.specs.Group.{total}

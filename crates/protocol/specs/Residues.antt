@@ -1,5 +1,5 @@
 -- Sixteen-bit entries modulo q, and the key rule B = A-as-S + E.
-use Rattle.std.specs.Prelude.{ℕ, zero, suc, ◌+◌, ◌-◌, ◌*◌, ◌/◌, ◌%◌, List, [], ◌∷◌, ◌++◌, ℤ, pos, negsuc}
+use Rattle.std.specs.Prelude.{ℕ, zero, suc, ◌+◌, ◌-◌, ◌*◌, ◌/◌, ◌%◌, List, ◌++◌, ℤ, pos, negsuc}
 use Rattle.protocol.specs.Bytes.{le16}
 use Rattle.protocol.specs.Group.{Entries}
 use Rattle.protocol.specs.Rule.{Rule}

@@ -1,5 +1,5 @@
 -- The setting of FrodoKEM keys, for a digest function F and for X as SHAKE128, and what an answered record means in it.
-use Rattle.std.specs.Prelude.{ℕ, ◌+◌, ◌*◌, List, map, slice_index}
+use Rattle.std.specs.Prelude.{ℕ, ◌*◌, List, map, slice_index}
 use Rattle.std.specs.List.{range_with_len}
 use Rattle.protocol.specs.declared.field.Field.TheVariants.{SeedA, Salt, FirstDigest, Attributes, Key, Audited, Commitment, Seeds, Offsets}
 use Rattle.protocol.specs.Bytes.{part, word}

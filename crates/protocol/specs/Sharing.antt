@@ -1,8 +1,8 @@
 -- Shares, and the texts 6 and 7 that are rebuilt from an answered record alone.
-use Rattle.std.specs.Prelude.{◌≡◌, ℕ, zero, suc, ◌+◌, ◌<◌, cond, List, [], ◌∷◌, ◌++◌, length, ℤ, pos, ◌==◌, slice_index, slice_index_or}
+use Rattle.std.specs.Prelude.{◌≡◌, ℕ, zero, suc, ◌<◌, cond, List, [], ◌∷◌, ◌++◌, length, ℤ, pos, ◌==◌, slice_index, slice_index_or}
 use Rattle.std.specs.List.{flat_map, AllByRecursion as All}
 use Rattle.protocol.specs.Flags.{ones, kept_index, audited_before}
-use Rattle.protocol.specs.Group.{total, completed}
+use Rattle.protocol.specs.Group.{completed}
 use Rattle.protocol.specs.Rule.{Rule}
 
 -- f 0, f 1, .., f (n - 1), one after the other

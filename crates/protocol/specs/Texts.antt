@@ -1,6 +1,6 @@
 -- The texts that digests are drawn on, but for 6 and 7 (Sharing): one label byte and the fields. Numbers have the low byte first; a
 -- repetition and a party have one byte, a node two.
-use Rattle.std.specs.Prelude.{ℕ, List, [], ◌∷◌, ◌++◌}
+use Rattle.std.specs.Prelude.{ℕ, List, ◌∷◌, ◌++◌}
 use Rattle.protocol.specs.Bytes.{le16}
 use Rattle.protocol.specs.Streams.{Digest, First, Second}
 

@@ -1,5 +1,5 @@
 -- The tree of seeds. The root is node 1, the children of node p are 2·p and 2·p + 1, and leaf j of depth h is node 2^h + j.
-use Rattle.std.specs.Prelude.{◌≡◌, ℕ, zero, suc, ◌+◌, ◌-◌, ◌*◌, ◌/◌, ◌%◌, ◌^◌, ◌<◌, cond, List, [], ◌∷◌, map, ◌==◌, ◌≢◌, slice_index_or}
+use Rattle.std.specs.Prelude.{◌≡◌, ℕ, zero, suc, ◌+◌, ◌-◌, ◌*◌, ◌/◌, ◌%◌, ◌^◌, ◌<◌, cond, List, [], map, ◌==◌, ◌≢◌, slice_index_or}
 use Rattle.std.specs.List.{range_with_len}
 use Rattle.protocol.specs.Bytes.{part}
 use Rattle.protocol.specs.Streams.{Digest, drawn}

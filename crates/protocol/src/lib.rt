@@ -1,4 +1,5 @@
 //! What a reader must believe: refusals, the header of a record, and the definitions that every other crate is proved against (specs/).
+#![tactic(auto)]
 
 pub mod fault;
 pub mod field;

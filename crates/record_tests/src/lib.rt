@@ -1,4 +1,5 @@
 //! The header's tests, the reader and the lengths, on tables of cases.
+#![tactic(auto)]
 
 #[cfg(test)]
 mod tests {

@@ -1,4 +1,5 @@
 //! The tree of seeds of a repetition, in lent sixteen-bit words: grown from its root, or from the siblings of a hidden leaf's path.
+#![tactic(auto)]
 
 pub mod tree;
 pub mod words;

@@ -1,5 +1,5 @@
 -- SHA-512 of a text of bytes (FIPS 180-4): padding, blocks, and the 64 bytes of the hash.
-use Rattle.std.specs.Prelude.{ℕ, zero, suc, ◌+◌, ◌-◌, ◌*◌, ◌/◌, ◌%◌, ◌^◌, List, [], ◌∷◌, ◌++◌, length, take, drop, replicate, slice_index}
+use Rattle.std.specs.Prelude.{ℕ, zero, suc, ◌-◌, ◌*◌, ◌/◌, ◌%◌, ◌^◌, List, [], ◌∷◌, ◌++◌, length, take, drop, replicate, slice_index}
 use Rattle.protocol.specs.Streams.{first_bytes}
 use Rattle.sha512.specs.Sha512.{initial, compressed}
 

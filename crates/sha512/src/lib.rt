@@ -1,4 +1,5 @@
 //! SHA-512, and the digest maker that stretches it to a stream.
+#![tactic(auto)]
 
 mod compression;
 pub mod hash;

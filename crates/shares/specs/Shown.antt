@@ -1,5 +1,5 @@
 -- What text 7 shows of one party.
-use Rattle.std.specs.Prelude.{ℕ, ◌*◌, cond, List, [], ◌++◌, map, ℤ, pos, ◌==◌, slice_index, slice_index_or}
+use Rattle.std.specs.Prelude.{ℕ, ◌*◌, cond, List, [], ◌++◌, map, pos, ◌==◌, slice_index, slice_index_or}
 use Rattle.std.specs.List.{range_with_len}
 use Rattle.protocol.specs.Bytes.{le16}
 use Rattle.protocol.specs.Flags.{kept_index, audited_before}

@@ -1,4 +1,5 @@
 //! Values and shares, and what one party gives to the texts 6 and 7.
+#![tactic(auto)]
 
 pub mod audited;
 pub mod drawing;

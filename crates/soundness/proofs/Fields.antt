@@ -1,11 +1,11 @@
 -- Entries with equal texts 6 and 7 agree in each field of the texts.
-use Rattle.std.proofs.Common.{◌≡◌, ℕ, zero, suc, ◌+◌, ◌<◌, ◌≤◌, Bool, true, false, cond, eqb, ◌⊎◌, List, [], ◌∷◌, ◌++◌, length, get_or, sym, refl, ap, ◌∙◌, inl, inr, arith}
-use Rattle.std.specs.List.{flat_map, AllByRecursion as All}
+use Rattle.std.proofs.Common.{◌≡◌, ℕ, ◌+◌, ◌<◌, Bool, true, false, cond, eqb, List, [], ◌++◌, length, get_or, sym, refl, ap, ◌∙◌, arith}
+use Rattle.std.specs.List.{flat_map}
 use Rattle.std.proofs.lemmas.List.{length-append}
-use Rattle.std.proofs.lemmas.Bool.{eq-eqb, ne_eqb, cond-true, cond-false, cond_both}
+use Rattle.std.proofs.lemmas.Bool.{ne_eqb, cond-false, cond_both}
 use Rattle.soundness.proofs.Parts.{same_append, same_cons, same_parts, length-parts, same_coded, length-coded}
 use Rattle.protocol.specs.Extractor.{Sound}
-use Rattle.protocol.specs.Group.{Entries, Lawful, total, others, completed}
+use Rattle.protocol.specs.Group.{completed}
 use Rattle.protocol.specs.Sharing.{Setting, Transcript, Fits, parts, corrected, product_of, commitment, audited_share, product_share, committed_part, party_part, text6, text7}
 
 -- what equal texts say of repetition e

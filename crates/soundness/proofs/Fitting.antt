@@ -1,11 +1,11 @@
 -- A transcript that was read from a record's bytes fits.
-use Rattle.std.proofs.Common.{◌≡◌, ℕ, ◌+◌, ◌-◌, ◌*◌, ◌/◌, ◌%◌, ◌<◌, ◌≤◌, List, map, length, get_or, take, drop, sym, refl, ap, ◌∙◌, mod-eq_of_lt, arith, length-drop}
+use Rattle.std.proofs.Common.{◌≡◌, ℕ, ◌+◌, ◌*◌, ◌%◌, ◌<◌, ◌≤◌, List, length, get_or, drop, mod-eq_of_lt, arith, length-drop}
 use Rattle.std.specs.List.{AllByRecursion as All}
 use Rattle.std.proofs.lemmas.List.{length-take-le}
 use Rattle.std.proofs.ByRecursion.{All-weaker}
 use Rattle.std.proofs.lemmas.Nat.{mul-le}
 use Rattle.std.proofs.lemmas.List.FromFn.{length-map-range_with_len}
-use Rattle.protocol.specs.declared.field.Field.TheVariants.{SeedA, Salt, FirstDigest, Attributes, Commitment}
+use Rattle.protocol.specs.declared.field.Field.TheVariants.{Salt, FirstDigest, Attributes, Commitment}
 use Rattle.protocol.specs.Bytes.{part}
 use Rattle.protocol.specs.Flags.{ones}
 use Rattle.protocol.specs.Layout.{offset, block_length, record_length}

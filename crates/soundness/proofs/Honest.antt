@@ -1,11 +1,11 @@
 -- An honest opening gives back its maker's texts.
-use Rattle.std.proofs.Common.{◌≡◌, ℕ, zero, suc, ◌+◌, ◌<◌, ◌≤◌, Bool, true, false, cond, eqb, ◌⊎◌, List, [], ◌∷◌, ◌++◌, map, length, get_or, ℤ, pos, sym, refl, ap, ◌∙◌, subst, inl, inr, arith}
+use Rattle.std.proofs.Common.{◌≡◌, ℕ, zero, suc, ◌+◌, ◌<◌, false, cond, eqb, List, [], ◌∷◌, ◌++◌, map, length, get_or, pos, sym, refl, ap, ◌∙◌, subst, inl, inr, arith}
 use Rattle.std.specs.List.{range_with_len, flat_map, AllByRecursion as All}
 use Rattle.std.proofs.ByRecursion.{All-from_get_or}
 use Rattle.std.proofs.lemmas.List.{length_push, get_or_push, get_or_append_left}
 use Rattle.std.proofs.lemmas.List.FromFn.{get_or-map-range_with_len, length-map-range_with_len}
-use Rattle.std.proofs.lemmas.Bool.{eq-eqb, ne_eqb, eqb-false, cond-true, cond-false, cases_eq, cases_Bool}
-use Rattle.soundness.proofs.Sums.{total_same, others_same, completed_whole}
+use Rattle.std.proofs.lemmas.Bool.{eq-eqb, ne_eqb, cond-true, cond-false, cases_eq, cases_Bool}
+use Rattle.soundness.proofs.Sums.{others_same, completed_whole}
 use Rattle.soundness.proofs.Parts.{parts_same}
 use Rattle.soundness.proofs.Linearity.{image_total}
 use Rattle.soundness.proofs.Recovery.{total_corrected}
@@ -13,10 +13,10 @@ use Rattle.soundness.proofs.Fields.{corrected_least}
 use Rattle.soundness.proofs.Indices.{lists_ones}
 use Rattle.protocol.specs.Extractor.{Sound}
 use Rattle.protocol.specs.Flags.{kept_index, ones, audited_before, audited_of}
-use Rattle.protocol.specs.Group.{Entries, Lawful, total, others, completed}
+use Rattle.protocol.specs.Group.{total, completed}
 use Rattle.protocol.specs.Prover.{HonestTexts, Secret, offsets, key, honest6, honest7, honest_part, opened, Shaped}
 use Rattle.protocol.specs.Rule.{Rule, LawfulRule}
-use Rattle.protocol.specs.Sharing.{Setting, Transcript, Fits, parts, corrected, product_of, value_at, commitment, audited_share, product_share, committed_part, party_part, text6, text7}
+use Rattle.protocol.specs.Sharing.{Setting, Transcript, Fits, corrected, product_of, commitment, audited_share, product_share, committed_part, party_part, text6, text7}
 
 unset_less : (flags : List ℕ) (n k : ℕ) → k < n → eqb (get_or flags k 0) 1 ≡ false → audited_before flags k < audited_before flags n
 unset_less flags zero k h e = absurd (omega arith)

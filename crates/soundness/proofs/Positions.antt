@@ -1,5 +1,5 @@
 -- Where a party's commitment stands in text 6.
-use Rattle.std.proofs.Common.{◌≡◌, ℕ, zero, suc, ◌+◌, ◌-◌, ◌*◌, ◌%◌, ◌<◌, ◌≤◌, ◌⊎◌, List, [], ◌∷◌, ◌++◌, length, take, drop, sym, refl, ap, ◌∙◌, inl, inr, one-add, arith}
+use Rattle.std.proofs.Common.{◌≡◌, ℕ, zero, suc, ◌+◌, ◌*◌, ◌<◌, ◌≤◌, List, [], ◌∷◌, ◌++◌, length, take, drop, sym, refl, ap, ◌∙◌, inl, inr, arith}
 use Rattle.std.specs.List.{flat_map}
 use Rattle.std.proofs.lemmas.List.{length-append, length-drop, drop_at, drop-drop, drop-append-le, take-append-le, take_all}
 use Rattle.std.proofs.lemmas.Nat.{mul-le}
@@ -12,7 +12,7 @@ use Rattle.protocol.specs.Streams.{Digest}
 use Rattle.protocol.specs.Guarantee.{commitment_at}
 use Rattle.protocol.specs.Residues.{modular}
 use Rattle.protocol.specs.Scheme.{setting}
-use Rattle.protocol.specs.Sharing.{Setting, Transcript, Fits, parts, commitment, committed_part, text6}
+use Rattle.protocol.specs.Sharing.{Transcript, Fits, parts, commitment, committed_part, text6}
 
 pub length-parts_of : (n l : ℕ) (f : ℕ → List ℕ) → ((k : ℕ) → k < n → length (f k) ≡ l) → length (parts n f) ≡ n * l
 length-parts_of zero l f h = omega arith

@@ -1,7 +1,6 @@
 -- Entries that agree, with different hidden parties, give the values.
-use Rattle.std.proofs.Common.{◌≡◌, ℕ, zero, suc, ◌+◌, ◌<◌, ◌≤◌, Bool, true, false, cond, eqb, ◌⊎◌, List, [], ◌∷◌, ◌++◌, length, get_or, sym, refl, ap, ◌∙◌, subst, inl, inr, arith}
+use Rattle.std.proofs.Common.{◌≡◌, ℕ, ◌<◌, Bool, true, false, cond, eqb, List, length, get_or, sym, refl, ap, ◌∙◌, subst, inl, inr, arith}
 use mathlib.Core.Path.{fun_ext}
-use Rattle.std.specs.List.{AllByRecursion as All}
 use Rattle.std.proofs.ByRecursion.{All-get_or}
 use Rattle.std.proofs.lemmas.Bool.{eq-eqb, ne_eqb, cond-true, cond-false, cases_eq}
 use Rattle.soundness.proofs.Sums.{total_same, total_others, others_same, total_completed, joined_row}
@@ -11,7 +10,7 @@ use Rattle.protocol.specs.Extractor.{Shows, Sound, joint_seeds, value_of, Specia
 use Rattle.protocol.specs.Flags.{kept_index}
 use Rattle.protocol.specs.Group.{Entries, Lawful, total, others, completed}
 use Rattle.protocol.specs.Rule.{Rule, LawfulRule}
-use Rattle.protocol.specs.Sharing.{Setting, Transcript, Fits, corrected, product_of, value_at, commitment, audited_share, product_share, text6, text7}
+use Rattle.protocol.specs.Sharing.{Setting, Transcript, Fits, corrected, product_of, value_at, audited_share, product_share}
 
 into_cond : {A B : Type 0} (f : A → B) (b : Bool) (u v : A) → f (cond b u v) ≡ cond b (f u) (f v)
 into_cond f true u v = refl

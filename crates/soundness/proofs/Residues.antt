@@ -1,9 +1,8 @@
 -- Entries modulo q are lawful, and the matrix rule is linear.
-use Rattle.std.proofs.Common.{◌≡◌, ℕ, zero, suc, ◌+◌, ◌-◌, ◌*◌, ◌/◌, ◌%◌, ◌<◌, ◌≤◌, List, [], ◌∷◌, length, ℤ, pos, negsuc, sym, refl, ap, ◌∙◌, add_assoc, mod-lt, mod-eq_of_lt, add_comm, zero-add, mul-add, mul_left_comm, arith}
+use Rattle.std.proofs.Common.{◌≡◌, ℕ, zero, suc, ◌+◌, ◌-◌, ◌*◌, ◌/◌, ◌%◌, ◌<◌, ◌≤◌, List, ℤ, pos, negsuc, sym, refl, ap, ◌∙◌, add_assoc, mod-lt, mod-eq_of_lt, add_comm, zero-add, mul-add, mul_left_comm, arith}
 use native.Mathlib.Nat.{mod-mod, mod-add-mod, add-mod-mod, add-mod_right, mod-add-div, add-mul-mod_self_left, zero-mod}
 use Rattle.std.proofs.lemmas.Nat.{mul-add-lt}
-use Rattle.soundness.proofs.Parts.{same_cons}
-use Rattle.protocol.specs.Group.{Entries, Lawful}
+use Rattle.protocol.specs.Group.{Lawful}
 use Rattle.protocol.specs.Residues.{modular, residue, dot, product, matrix_rule}
 use Rattle.protocol.specs.Rule.{LawfulRule}
 

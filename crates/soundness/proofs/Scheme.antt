@@ -1,5 +1,5 @@
 -- The setting of FrodoKEM keys is sound, whatever F and X are.
-use Rattle.std.proofs.Common.{◌≡◌, ℕ, ◌+◌, ◌*◌, ◌/◌, ◌%◌, ◌<◌, ◌≤◌, cond, eqb, List, length, get_or, sym, refl, ap, ◌∙◌, arith}
+use Rattle.std.proofs.Common.{◌≡◌, ℕ, ◌+◌, ◌*◌, ◌%◌, ◌<◌, ◌≤◌, eqb, List, get_or, sym, refl, ◌∙◌, arith}
 use native.Mathlib.Nat.{mod-mod}
 use Rattle.std.proofs.lemmas.List.FromFn.{length-map-range_with_len}
 use Rattle.std.proofs.lemmas.Nat.{mul-add-lt, div-mul-add, mod-mul-add}
@@ -11,8 +11,8 @@ use Rattle.protocol.specs.Extractor.{Drawn, Sound, joint_seeds, value_of, Shows}
 use Rattle.protocol.specs.Flags.{kept_index}
 use Rattle.protocol.specs.Parameters.{Parameters, modulus, width, parties}
 use Rattle.protocol.specs.Prover.{Secret, Shaped, honest6, honest7, opened}
-use Rattle.protocol.specs.Residues.{residue, dot, matrix, matrix_rule}
-use Rattle.protocol.specs.Rule.{Rule, LawfulRule}
+use Rattle.protocol.specs.Residues.{residue, dot, matrix}
+use Rattle.protocol.specs.Rule.{LawfulRule}
 use Rattle.protocol.specs.Scheme.{setting}
 use Rattle.protocol.specs.Sharing.{Setting, Transcript, Fits, value_at, commitment, text6, text7}
 use Rattle.protocol.specs.Streams.{Digest, first_bytes, drawn}

@@ -1,5 +1,7 @@
 //! The argument of the protocol, over any lawful key rule: what two answers to one commitment give, and what an honest opening gives.
 //! Each function only carries a law on its contract; the proofs are in proofs/.
+#![tactic(auto)]
+
 ghost use Rattle.protocol.specs.Tree.{Regrows};
 ghost use Rattle.protocol.specs.Laws.{MatrixRuleIsLawful, SoundUnderLawfulRules, HonestUnderLawfulRules, HiddenProductByLinearity, KeptValuesListed};
 

@@ -1,4 +1,4 @@
-use Rattle.std.proofs.Common.{◌≡◌, ◌+◌, ◌≤◌, length, sym, refl, ap, ◌∙◌, arith, rules}
+use Rattle.std.proofs.Common.{◌≡◌, length, ap, ◌∙◌, arith, rules}
 use Rattle.protocol.specs.Selection.{hidden_parties}
 use Rattle.digest.specs.Short.{short_bytes}
 use Rattle.challenge.proofs.Asking.{started_reads, filled_ok}

@@ -1,4 +1,4 @@
-use Rattle.std.proofs.Common.{◌≡◌, ℕ, ◌+◌, ◌-◌, ◌*◌, ◌≤◌, length, replicate, sym, refl, ap, ◌∙◌, subst, arith, rules}
+use Rattle.std.proofs.Common.{◌≡◌, ◌+◌, ◌*◌, length, replicate, refl, ap, ◌∙◌, subst, arith, rules}
 use Rattle.protocol.specs.Selection.{little, selected}
 use Rattle.digest.specs.Short.{short_bytes}
 use Rattle.challenge.specs.Answering.{Reading}

@@ -1,4 +1,4 @@
-use Rattle.std.proofs.Common.{◌≡◌, ℕ, ◌+◌, ◌-◌, ◌%◌, ◌<◌, length, refl, ap, ◌∙◌, le_refl, arith, rules}
+use Rattle.std.proofs.Common.{length, ap, ◌∙◌, le_refl, arith}
 use lib.Bits.{bit_and}
 use Rattle.std.proofs.lemmas.List.FromFn.{fill_by_all}
 use Rattle.protocol.specs.Parameters.{modulus}

@@ -1,4 +1,4 @@
-use Rattle.std.proofs.Common.{ℕ, ◌+◌, ◌*◌, map, length, ap, ◌∙◌, le_refl}
+use Rattle.std.proofs.Common.{◌+◌, ◌*◌, map, length, ◌∙◌, le_refl}
 use Rattle.std.specs.List.{range_with_len}
 use Rattle.protocol.specs.Parameters.{modulus}
 use Rattle.protocol.specs.Residues.{modular}

@@ -1,4 +1,4 @@
-use Rattle.std.proofs.Common.{◌≡◌, ℕ, ◌≤◌, ◌++◌, map, length, get_or, set, ap, ◌∙◌, arith, w8, SFits, rules}
+use Rattle.std.proofs.Common.{ℕ, ◌≤◌, ◌++◌, map, length, get_or, set, ap, ◌∙◌, arith, w8, SFits, rules}
 use Rattle.std.proofs.lemmas.Int.{to_z-of_z}
 use Rattle.std.proofs.lemmas.List.Edits.{map_over_more}
 use Rattle.std.proofs.lemmas.List.{get_or_default, take_all, drop_all, append-nil}

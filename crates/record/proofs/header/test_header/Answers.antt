@@ -1,6 +1,4 @@
-use Rattle.std.proofs.Common.{◌≡◌, ◌+◌, ◌*◌, get_or, sym, ap, ◌∙◌, arith, rules}
-use Rattle.protocol.specs.Parameters.{Parameters}
-use Rattle.protocol.specs.Header.{parameters_of, header_bytes}
+use Rattle.std.proofs.Common.{rules}
 use Rattle.protocol.proofs.Heads.{read_back}
 use Rattle.record.proofs.header.test_header.Goals as goal
 

@@ -1,4 +1,4 @@
-use Rattle.std.proofs.Common.{◌≡◌, ◌≤◌, map, length, get_or, pos, sym, ap, ◌∙◌, arith, w8, SFits, rules}
+use Rattle.std.proofs.Common.{◌≤◌, map, length, pos, sym, ap, ◌∙◌, arith, w8, SFits, rules}
 use native.Mathlib.Nat.{zero-mod}
 use Rattle.std.proofs.lemmas.List.{get_or-map, get_or_past, length-map}
 use Rattle.std.proofs.lemmas.Int.{to_z-of_z}

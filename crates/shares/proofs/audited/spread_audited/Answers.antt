@@ -1,4 +1,4 @@
-use Rattle.std.proofs.Common.{◌≡◌, ℕ, zero, suc, ◌+◌, ◌<◌, ◌≤◌, cond, eqb, ◌⊎◌, List, map, length, get_or, pos, sym, ap, ◌∙◌, inl, inr, add-one, arith, below_more}
+use Rattle.std.proofs.Common.{◌≡◌, ℕ, zero, suc, ◌+◌, ◌≤◌, eqb, List, map, get_or, pos, sym, ap, ◌∙◌, inl, inr, add-one, arith, below_more}
 use Rattle.std.proofs.lemmas.List.FromFn.{fill_by_all}
 use Rattle.std.proofs.lemmas.List.{get_or-set_same, get_or-set_other}
 use Rattle.std.proofs.lemmas.Bool.{cases_Bool, cond-true, cond-false, eq-eqb, ne_eqb}
@@ -6,7 +6,6 @@ use Rattle.protocol.specs.Flags.{audited_before}
 use Rattle.protocol.specs.Parameters.{modulus}
 use Rattle.protocol.specs.Residues.{residue}
 use Rattle.protocol.specs.Sampling.{signed}
-use Rattle.lattice.specs.Lines.{at}
 use Rattle.lattice.specs.Sets.{number}
 use Rattle.shares.specs.Shown.{spread}
 use Rattle.shares.proofs.audited.spread_audited.Goals as goal

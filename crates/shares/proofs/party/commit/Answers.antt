@@ -1,4 +1,4 @@
-use Rattle.std.proofs.Common.{◌≡◌, [], ◌∷◌, ◌++◌, ap, ◌∙◌}
+use Rattle.std.proofs.Common.{◌∷◌, ◌++◌, ap, ◌∙◌}
 use Rattle.protocol.specs.Streams.{first_bytes}
 use Rattle.digest.proofs.Runs.{holding_stream}
 use Rattle.shares.proofs.party.commit.Goals as goal

@@ -1,4 +1,4 @@
-use Rattle.std.proofs.Common.{◌≡◌, ◌*◌, length, refl, arith}
+use Rattle.std.proofs.Common.{◌*◌, length, refl, arith}
 use Rattle.protocol.specs.Of.{parameters}
 use Rattle.lattice.specs.Lines.{at}
 use Rattle.shares.specs.Shown.{shown, product_of}

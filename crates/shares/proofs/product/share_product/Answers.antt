@@ -1,4 +1,4 @@
-use Rattle.std.proofs.Common.{◌≡◌, ℕ, ◌*◌, List, map, length, ap, ◌∙◌}
+use Rattle.std.proofs.Common.{ℕ, ◌*◌, List, map, ap, ◌∙◌}
 use Rattle.std.specs.List.{range_with_len}
 use Rattle.protocol.specs.Flags.{kept_index}
 use Rattle.protocol.specs.Of.{parameters}

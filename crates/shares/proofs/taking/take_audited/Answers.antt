@@ -1,4 +1,4 @@
-use Rattle.std.proofs.Common.{◌*◌, length, ◌∙◌, arith, rules}
+use Rattle.std.proofs.Common.{◌*◌, length, arith}
 use Rattle.digest.proofs.Taking.{took_none, took_next, ready_after, length-parts_most}
 use Rattle.lattice.specs.Lines.{at}
 use Rattle.shares.specs.Shown.{audited_share}

@@ -1,6 +1,4 @@
-use Rattle.std.proofs.Common.{[], ◌∷◌, refl, subst}
-use Rattle.std.proofs.lemmas.List.{append-nil}
-use Rattle.digest.specs.Making.{Holding}
+use Rattle.std.proofs.Common.{refl}
 use Rattle.digest.specs.Short.{short_bytes}
 use Rattle.challenge.proofs.Asking.{started_by_maker, holding_same, holding_two}
 use Rattle.challenge.proofs.by_maker.DerivedChallenger.first.Goals as goal

@@ -1,7 +1,7 @@
-use Rattle.std.proofs.Common.{[], ◌∷◌, refl, subst}
+use Rattle.std.proofs.Common.{◌∷◌, refl, subst}
 use Rattle.std.proofs.lemmas.List.{append-nil}
 use Rattle.digest.specs.Making.{Holding}
-use Rattle.challenge.proofs.Asking.{started_by_maker, holding_same, holding_two}
+use Rattle.challenge.proofs.Asking.{started_by_maker}
 use Rattle.challenge.proofs.by_maker.DrawnChallenger.first.Goals as goal
 
 pub returns : goal.returns

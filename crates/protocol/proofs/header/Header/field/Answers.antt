@@ -1,6 +1,6 @@
 use Rattle.std.proofs.Common.{◌-◌, sym, ◌∙◌, arith}
 use Rattle.protocol.specs.Of.{parameters}
-use Rattle.protocol.proofs.Tiling.{before, behind}
+use Rattle.protocol.proofs.Tiling.{behind}
 use Rattle.protocol.proofs.header.Header.field.Goals as goal
 
 pub returns : goal.returns
