@@ -1,6 +1,6 @@
 -- What is known of a well_formed entry, and what makes one.
 use Rattle.std.proofs.Common.{◌≡◌, ℕ, ◌<◌, true, false, not, eqb, ltb, List, [], ◌∷◌, ◌++◌, length, get_or, Decides, refl, inl, inr, arith}
-use Rattle.std.specs.List.{AllByRecursion as All}
+use Rattle.std.specs.List.{AllByRecursion}
 use Rattle.std.proofs.ByRecursion.{All-get_or, All-from_get_or, All-push, All-weaker, Decides-by_and}
 use Rattle.std.proofs.lemmas.List.{get_or_past}
 use Rattle.std.proofs.lemmas.Bool.{and_parts, and_from, cases_lt, eq-eqb, eqb-true, not-true, not_from_false}
@@ -20,11 +20,11 @@ use Rattle.guarantee.proofs.Passing.{Passes}
 passes_decides : (ts : List Test) → Decides (passes ts) (Passes ts)
 passes_decides = Decides-by_and (λ t. not t.fails) (λ t. t.fails ≡ false) passes (λ t. (not-true t.fails, not_from_false t.fails)) refl (λ _ _. refl)
 
-below_decides : (n : ℕ) (ks : List ℕ) → Decides (all_below n ks) (All (λ k. k < n) ks)
+below_decides : (n : ℕ) (ks : List ℕ) → Decides (all_below n ks) (AllByRecursion (λ k. k < n) ks)
 below_decides n = Decides-by_and (λ k. ltb k n) (λ k. k < n) (all_below n) (λ k. Decides-ltb k n) refl (λ _ _. refl)
 
 -- flags that are 0 or 1, and 0 past the last
-flags_tell : (flags : List ℕ) → All (λ k. k < 2) flags → (k : ℕ) → get_or flags k 0 < 2
+flags_tell : (flags : List ℕ) → AllByRecursion (λ k. k < 2) flags → (k : ℕ) → get_or flags k 0 < 2
 flags_tell flags all k =
     elim (cases_lt k (length flags)) [
       | inl h ↦ All-get_or (λ n. n < 2) flags k 0 h all
@@ -70,10 +70,10 @@ well_formed_from a heads form =
 pub told : (a : Entry) → well_formed a ≡ true → Told a
 told a e = well_formed_told a (formed a e)
 
-each_decides : (hs : List Entry) → Decides (all_well_formed hs) (All (λ a. well_formed a ≡ true) hs)
+each_decides : (hs : List Entry) → Decides (all_well_formed hs) (AllByRecursion (λ a. well_formed a ≡ true) hs)
 each_decides = Decides-by_and well_formed (λ a. well_formed a ≡ true) all_well_formed (λ a. (λ e. e, λ e. e)) refl (λ _ _. refl)
 
-pub all_told : (hs : List Entry) → all_well_formed hs ≡ true → All Told hs
+pub all_told : (hs : List Entry) → all_well_formed hs ≡ true → AllByRecursion Told hs
 all_told hs e = All-weaker (λ a. well_formed a ≡ true) Told told hs ((each_decides hs).0 e)
 
 pub formed_at : (hs : List Entry) (k : ℕ) (d : Entry) → all_well_formed hs ≡ true → k < length hs → well_formed (get_or hs k d) ≡ true

@@ -1,6 +1,6 @@
 -- A call that stops at one of its first tests has not used its makers.
 use Rattle.std.proofs.Common.{◌≡◌, ℕ, Bool, true, false, cond, List, [], ◌∷◌, Ok, Err, Result, refl, subst, arith}
-use Rattle.std.specs.List.{AllByRecursion as All}
+use Rattle.std.specs.List.{AllByRecursion}
 use Rattle.protocol.specs.declared.fault.Fault.{Fault}
 use Rattle.protocol.specs.Ceremony.{memory_test, output_test}
 use Rattle.protocol.specs.Header.{bare_tests, checks_header, length-test, parameters_of}
@@ -10,7 +10,7 @@ use Rattle.digest.specs.Making.{Making}
 use Rattle.protocol.specs.Streams.{Digest}
 
 -- the refusal is that of one of the tests
-first_fault : {X : Type 0} (P : Fault → Type 0) (ts : List Test) (x : X) (f : Fault) → All (λ t. P t.fault) ts → first_of ts x ≡ Err f → P f
+first_fault : {X : Type 0} (P : Fault → Type 0) (ts : List Test) (x : X) (f : Fault) → AllByRecursion (λ t. P t.fault) ts → first_of ts x ≡ Err f → P f
 first_fault P [] x f h e = let z : ◌≡◌ {A = ℕ} 0 1 = cc in absurd (omega arith)
 first_fault P (t ∷ ts) x f (h, hs) e = step t.fails (λ d. first_fault P ts x f hs d) e
   where

@@ -1,6 +1,6 @@
 -- Entries laid end to end are read off again.
 use Rattle.std.proofs.Common.{◌≡◌, ℕ, zero, suc, ◌+◌, ◌*◌, ◌/◌, ◌%◌, ◌<◌, ◌≤◌, List, [], ◌∷◌, ◌++◌, length, get_or, take, drop, sym, refl, ap, ◌∙◌, append_assoc, append-nil, arith, length-append, length-drop, take-append-drop}
-use Rattle.std.specs.List.{AllByRecursion as All}
+use Rattle.std.specs.List.{AllByRecursion}
 use Rattle.std.proofs.lemmas.List.{drop-drop, drop_more, take_at, drop_at, length-take-le, length_push}
 use Rattle.std.proofs.ByRecursion.{All-push, All-get_or}
 use Rattle.std.proofs.lemmas.Nat.{shr-shr}
@@ -103,7 +103,7 @@ module _ (a : Entry) (t : Told a) (tail : List ℕ) where
   pub rest_back : drop (size_at whole) whole ≡ tail
   rest_back = ap (λ r. drop (4 + value32 whole + (parameters_of r).tau + flag_length (parameters_of r)) whole) bytes_back ∙ drop-flags
 
-pub read_back : (hs : List Entry) (tail : List ℕ) → All Told hs → entries_at (length hs) (laid hs ++ tail) ≡ hs
+pub read_back : (hs : List Entry) (tail : List ℕ) → AllByRecursion Told hs → entries_at (length hs) (laid hs ++ tail) ≡ hs
 read_back [] tail t = refl
 read_back (a ∷ hs) tail (t, ts) =
     ap (λ z. entries_at (suc (length hs)) z) (append_assoc (entry_bytes a) (laid hs) tail)
@@ -120,7 +120,7 @@ laid_push (b ∷ hs) a = ap (λ z. entry_bytes b ++ z) (laid_push hs a) ∙ sym 
 
 -- a book that holds these entries_at and nothing else
 pub record Holds (hs : List Entry) (s : State) : Type 0 where
-  pub told : All Told hs
+  pub told : AllByRecursion Told hs
   pub fits : s.used ≤ length s.memory
   pub lies : take s.used s.memory ≡ laid hs
   pub count : s.count ≡ length hs
@@ -157,7 +157,7 @@ pub record Step (hs : List Entry) (mem tail : List ℕ) (k at : ℕ) : Type 0 wh
   pub room : at + length (entry_bytes (get_or hs k no_entry)) ≤ length mem
   pub next : drop (at + size_at (drop at mem)) mem ≡ laid (drop (k + 1) hs) ++ tail
 
-pub walk : (hs : List Entry) (mem tail : List ℕ) (k at : ℕ) → All Told hs → k < length hs → at ≤ length mem → drop at mem ≡ laid (drop k hs) ++ tail → Step hs mem tail k at
+pub walk : (hs : List Entry) (mem tail : List ℕ) (k at : ℕ) → AllByRecursion Told hs → k < length hs → at ≤ length mem → drop at mem ≡ laid (drop k hs) ++ tail → Step hs mem tail k at
 walk hs mem tail k at told h within p =
     let a = get_or hs k no_entry in
     let t : Told a = All-get_or Told hs k no_entry h told in

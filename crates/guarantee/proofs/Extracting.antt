@@ -1,6 +1,6 @@
 -- Two entries of one commitment give a collision or the secret.
 use Rattle.std.proofs.Common.{◌≡◌, ℕ, zero, suc, ◌+◌, ◌-◌, ◌*◌, ◌/◌, ◌%◌, ◌<◌, ◌≤◌, false, not, eqb, List, [], ◌∷◌, ◌++◌, length, get_or, take, drop, Ok, Result, sym, refl, ap, ◌∙◌, subst, inl, inr, mod-lt, arith, length-append, length-drop}
-use Rattle.std.specs.List.{common_prefix_len, AllByRecursion as All}
+use Rattle.std.specs.List.{common_prefix_len, AllByRecursion}
 use Rattle.std.specs.Str.{bytes_eq}
 use Rattle.std.proofs.lemmas.List.{get_or-take, length-take-le, take-take, drop-take, drop-drop, drop_at, take_all, drop-append-le, take-append-le}
 use Rattle.std.proofs.ByRecursion.{All-get_or}
@@ -308,7 +308,7 @@ extraction F X hs s run i j e work room hi hj same q apart enough out-room =
     let k = kept F X hs s run in
     let is : entries_of s ≡ hs = holds_held hs s k.holds in
     let n : s.count ≡ length hs = k.holds.count in
-    let each : All (Checked F X) (entries_of s) = subst (All (Checked F X)) (sym is) k.each in
+    let each : AllByRecursion (Checked F X) (entries_of s) = subst (AllByRecursion (Checked F X)) (sym is) k.each in
     let m : length (entries_of s) ≡ s.count = ap length is ∙ sym n in
     let ca : Checked F X a = All-get_or (Checked F X) (entries_of s) i no_entry (omega arith) each in
     let cb : Checked F X b = All-get_or (Checked F X) (entries_of s) j no_entry (omega arith) each in

@@ -1,6 +1,6 @@
 -- Every entry of a book that calls made passes its tests with the answers that it stores.
 use Rattle.std.proofs.Common.{◌≡◌, ℕ, ◌+◌, ◌<◌, ◌≤◌, true, false, not, eqb, List, [], ◌∷◌, length, get_or, Ok, sym, refl, ◌∙◌, subst, arith}
-use Rattle.std.specs.List.{AllByRecursion as All}
+use Rattle.std.specs.List.{AllByRecursion}
 use Rattle.std.specs.Str.{bytes_eq}
 use Rattle.std.proofs.ByRecursion.{All-push, All-get_or}
 use Rattle.std.proofs.lemmas.Slice.Eq.{bytes_eq-Decides}
@@ -109,7 +109,7 @@ module _ (F X : Digest) (G1 : First) (G2 : Second) (s : State) (r : List ℕ) (w
 
 pub record Kept (F X : Digest) (hs : List Entry) (s : State) : Type 0 where
   pub holds : Holds hs s
-  pub each : All (Checked F X) hs
+  pub each : AllByRecursion (Checked F X) hs
 
 pub kept : (F X : Digest) (hs : List Entry) (s : State) → Run F X hs s → Kept F X hs s
 kept F X hs s (began memory) = record { holds = record { told = tt; fits = omega arith; lies = refl; count = refl }; each = tt }

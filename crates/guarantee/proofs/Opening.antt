@@ -1,6 +1,6 @@
 -- The record that open writes, read back.
 use Rattle.std.proofs.Common.{◌≡◌, ℕ, zero, suc, ◌+◌, ◌-◌, ◌*◌, ◌/◌, ◌%◌, ◌^◌, ◌<◌, ◌≤◌, List, [], ◌∷◌, ◌++◌, map, length, get_or, take, drop, ℤ, pos, sym, refl, ap, ◌∙◌, subst, mod-lt, add-one, arith, length-append}
-use Rattle.std.specs.List.{range_with_len, flat_map, AllByRecursion as All}
+use Rattle.std.specs.List.{range_with_len, flat_map, AllByRecursion}
 use Rattle.std.proofs.lemmas.List.{length-map, drop-drop, drop_at, take_at, take_all, get_or-map}
 use Rattle.std.proofs.ByRecursion.{All-get_or, All-weaker}
 use Rattle.std.proofs.lemmas.List.FromFn.{get_or-map-range_with_len, length-map-range_with_len, fill_by_all}
@@ -51,7 +51,7 @@ drop_past a b n m h = sym (drop-drop m n (a ++ b)) ∙ ap (drop m) (drop_at a b 
 skip : (u v : List ℕ) (n at m : ℕ) → length u ≡ n → part (u ++ v) (n + at) m ≡ part v at m
 skip u v n at m h = ap (take m) (drop_past u v n at h)
 
-word_joined : (q : ℕ) (xs : List ℕ) (k : ℕ) → All (λ b. b < 65536) xs → k < length xs → word (flat_map (modular q).code xs) (2 * k) ≡ get_or xs k 0
+word_joined : (q : ℕ) (xs : List ℕ) (k : ℕ) → AllByRecursion (λ b. b < 65536) xs → k < length xs → word (flat_map (modular q).code xs) (2 * k) ≡ get_or xs k 0
 word_joined q [] k small h = absurd (omega arith)
 word_joined q (x ∷ xs) zero (small, rest) h = let z : x % 256 + 256 * (x / 256 % 256) ≡ x = omega arith in z
 word_joined q (x ∷ xs) (suc k) (small, rest) h =
@@ -59,11 +59,11 @@ word_joined q (x ∷ xs) (suc k) (small, rest) h =
     ∙ ap (λ n. get_or (flat_map (modular q).code xs) (2 * k) 0 + 256 * get_or (flat_map (modular q).code (x ∷ xs)) n 0) (let z : suc (suc (2 * k)) + 1 ≡ suc (suc (2 * k + 1)) = omega arith in z)
     ∙ word_joined q xs k rest (omega arith)
 
-words_joined : (q : ℕ) (xs : List ℕ) (n : ℕ) → All (λ b. b < 65536) xs → length xs ≡ n → words (flat_map (modular q).code xs) n ≡ xs
+words_joined : (q : ℕ) (xs : List ℕ) (n : ℕ) → AllByRecursion (λ b. b < 65536) xs → length xs ≡ n → words (flat_map (modular q).code xs) n ≡ xs
 words_joined q xs n small h = sym (fill_by_all _ xs n 0 h (λ k r. sym (word_joined q xs k small (omega arith))))
 
 -- entries in normal form have two bytes
-normal_small : (q : ℕ) → 0 < q → q ≤ 65536 → (xs : List ℕ) → All (λ b. b % q ≡ b) xs → All (λ b. b < 65536) xs
+normal_small : (q : ℕ) → 0 < q → q ≤ 65536 → (xs : List ℕ) → AllByRecursion (λ b. b % q ≡ b) xs → AllByRecursion (λ b. b < 65536) xs
 normal_small q some most xs h = All-weaker (λ b. b % q ≡ b) (λ b. b < 65536) (λ b e. let less : b % q < q = mod-lt b some in omega arith) xs h
 
 module _ (F X : Digest) (bytes : GivesBytes F) (G1 : First) (G2 : Second) (k : Keyed) (attributes : List ℕ) (ready : Ready k)
@@ -123,11 +123,11 @@ module _ (F X : Digest) (bytes : GivesBytes F) (G1 : First) (G2 : Second) (k : K
   fits_honest : Fits s (opened s p hidden (λ e j. []))
   fits_honest = (completes F X x (take 15 k.header) p shaped hidden within (λ e j. [])).2
 
-  key_small : All (λ b. b < 65536) (key s p)
+  key_small : AllByRecursion (λ b. b < 65536) (key s p)
   unfolding opened
   key_small = normal_small q some (modulus_small x.set) (key s p) fits_honest.key_least
 
-  offsets_small : (e : ℕ) → e < x.tau → All (λ b. b < 65536) (offsets s p e)
+  offsets_small : (e : ℕ) → e < x.tau → AllByRecursion (λ b. b < 65536) (offsets s p e)
   unfolding opened
   offsets_small e h = normal_small q some (modulus_small x.set) (offsets s p e) (fits_honest.offsets_least e h)
 
@@ -147,7 +147,7 @@ module _ (F X : Digest) (bytes : GivesBytes F) (G1 : First) (G2 : Second) (k : K
   audited_long : length audited ≡ x.m - sigma x
   audited_long = length-map values byte_of ∙ values_long
 
-  values_within : All (Within (bound x.set)) values
+  values_within : AllByRecursion (Within (bound x.set)) values
   values_within = all_left_out p.flags p.values (Within (bound x.set))
       (λ i. let w = F (1 ∷ (k.salt ++ k.master)) in
       sampled_within x.set (w (2 * i) + 256 * w (2 * i + 1)) (omega (arith, bytes (1 ∷ (k.salt ++ k.master)) (2 * i), bytes (1 ∷ (k.salt ++ k.master)) (2 * i + 1)))) x.m

@@ -1,6 +1,6 @@
 -- What an accepted chain of tests tells, and how one is accepted.
 use Rattle.std.proofs.Common.{◌≡◌, ℕ, zero, suc, ◌+◌, ◌<◌, Bool, true, false, cond, List, [], ◌∷◌, ◌++◌, map, Ok, Err, Result, sym, refl, ap, ◌∙◌, subst, inl, inr, arith}
-use Rattle.std.specs.List.{range_with_len, flat_map, AllByRecursion as All}
+use Rattle.std.specs.List.{range_with_len, flat_map, AllByRecursion}
 use Rattle.std.proofs.ByRecursion.{All-get_or, All-from_get_or, All-append}
 use Rattle.std.proofs.lemmas.List.FromFn.{get_or-map-range_with_len, length-map-range_with_len, length-range_with_len, get_or-range_with_len}
 use Rattle.std.proofs.lemmas.Bool.{cases_Bool, cond-true, cond-false}
@@ -9,7 +9,7 @@ use Rattle.protocol.specs.Tests.{Test, first_of, after}
 
 -- no test of a list fails
 abbrev pub Passes : List Test → Type 0
-Passes ts = All (λ t. t.fails ≡ false) ts
+Passes ts = AllByRecursion (λ t. t.fails ≡ false) ts
 
 step : {X : Type 0} (b : Bool) (e : Fault) (r : Result X Fault) (y : X) → cond b (Err e) r ≡ Ok y → (b ≡ false) × (r ≡ Ok y)
 step true e r y p = let z : ◌≡◌ {A = ℕ} 0 1 = cc in (absurd (omega arith), absurd (omega arith))
@@ -29,7 +29,7 @@ pub after_ok : {X Y : Type 0} (r : Result X Fault) (next : X → Result Y Fault)
 after_ok (Ok x) next y p = (x, refl, p)
 after_ok {X} {Y} (Err e) next y p = let z : ◌≡◌ {A = ℕ} 0 1 = cc in absurd (omega arith)
 
-pub front : (P : Test → Type 0) (xs ys : List Test) → All P (xs ++ ys) → All P xs × All P ys
+pub front : (P : Test → Type 0) (xs ys : List Test) → AllByRecursion P (xs ++ ys) → AllByRecursion P xs × AllByRecursion P ys
 front P [] ys h = (tt, h)
 front P (x ∷ xs) ys (h, hs) = let r = front P xs ys hs in ((h, r.0), r.1)
 
@@ -44,11 +44,11 @@ all_tests f n h =
     (λ k q. let k<n : k < n = let m = length-map-range_with_len f 0 n in omega arith in
     subst (λ t. t.fails ≡ false) (sym (get_or-map-range_with_len f 0 n k k (f 0) k<n (omega arith))) (h k k<n))
 
-each_joined : (f : ℕ → List Test) (xs : List ℕ) → Passes (flat_map f xs) → All (λ e. Passes (f e)) xs
+each_joined : (f : ℕ → List Test) (xs : List ℕ) → Passes (flat_map f xs) → AllByRecursion (λ e. Passes (f e)) xs
 each_joined f [] h = tt
 each_joined f (x ∷ xs) h = let r = front (λ t. t.fails ≡ false) (f x) (flat_map f xs) h in (r.0, each_joined f xs r.1)
 
-all_joined : (f : ℕ → List Test) (xs : List ℕ) → All (λ e. Passes (f e)) xs → Passes (flat_map f xs)
+all_joined : (f : ℕ → List Test) (xs : List ℕ) → AllByRecursion (λ e. Passes (f e)) xs → Passes (flat_map f xs)
 all_joined f [] h = tt
 all_joined f (x ∷ xs) (h, hs) = All-append (λ t. t.fails ≡ false) (f x) (flat_map f xs) h (all_joined f xs hs)
 

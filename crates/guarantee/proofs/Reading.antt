@@ -1,6 +1,6 @@
 -- The fields of a checked record, from its bytes.
 use Rattle.std.proofs.Common.{◌≡◌, ℕ, zero, suc, ◌+◌, ◌-◌, ◌*◌, ◌/◌, ◌%◌, ◌^◌, ◌<◌, ◌≤◌, false, eqb, List, [], length, get_or, take, drop, ℤ, pos, negsuc, sym, refl, ap, ◌∙◌, subst, inl, inr, add-one, arith}
-use Rattle.std.specs.List.{range_with_len, flat_map, AllByRecursion as All}
+use Rattle.std.specs.List.{range_with_len, flat_map, AllByRecursion}
 use Rattle.std.proofs.lemmas.List.{get_or-take, get_or-drop, get_or-map, take_all}
 use Rattle.std.proofs.ByRecursion.{All-from_get_or}
 use Rattle.std.proofs.lemmas.List.FromFn.{get_or-map-range_with_len, length-map-range_with_len}
@@ -104,12 +104,12 @@ module _ (F X : Digest) (a : Entry) (c : WellFormed a) where
   unfolding transcript_of
   offset_is e k q = words_at r (offsets_at x e) x.m k q
 
-  small_key : All (λ b. b < modulus x.set) (transcript F a).key
+  small_key : AllByRecursion (λ b. b < modulus x.set) (transcript F a).key
   unfolding transcript_of
   small_key = All-from_get_or (λ b. b < modulus x.set) (transcript F a).key 0
       (λ i q. let i<n : i < x.n * x.c = subst (λ n. i < n) (length-map-range_with_len _ 0 (x.n * x.c)) q in subst (λ z. z < modulus x.set) (sym (key_is i i<n)) (key_below i i<n))
 
-  small_offsets : (e : ℕ) → e < x.tau → All (λ b. b < modulus x.set) ((transcript F a).offsets e)
+  small_offsets : (e : ℕ) → e < x.tau → AllByRecursion (λ b. b < modulus x.set) ((transcript F a).offsets e)
   unfolding transcript_of
   small_offsets e t = All-from_get_or (λ b. b < modulus x.set) ((transcript F a).offsets e) 0
       (λ i q. let i<n : i < x.m = subst (λ n. i < n) (length-map-range_with_len _ 0 x.m) q in subst (λ z. z < modulus x.set) (sym (offset_is e i i<n)) (offset_below e i t i<n))

@@ -1,6 +1,6 @@
 -- Sampled values are within the bound, and are read back from their bytes.
 use Rattle.std.proofs.Common.{◌≡◌, ℕ, zero, suc, ◌+◌, ◌-◌, ◌/◌, ◌%◌, ◌<◌, ◌≤◌, false, eqb, ltb, List, [], ◌∷◌, ◌++◌, map, length, get_or, ℤ, pos, negsuc, neg_ℤ, sym, refl, ap, ◌∙◌, subst, inl, inr, arith}
-use Rattle.std.specs.List.{AllByRecursion as All}
+use Rattle.std.specs.List.{AllByRecursion}
 use Rattle.std.proofs.ByRecursion.{All-append}
 use Rattle.std.proofs.lemmas.List.{length_push}
 use Rattle.std.proofs.lemmas.Bool.{cond-true, cond-false, cond_both, cases_Bool, lt-ltb, le-ltb}
@@ -56,7 +56,7 @@ pub not_beyond : (b : ℕ) (v : ℤ) → Within b v → beyond b v ≡ false
 not_beyond b (pos a) w = le-ltb b a w
 not_beyond b (negsuc a) w = le-ltb b (suc a) w
 
-pub signed_bytes : (b : ℕ) (vs : List ℤ) → b ≤ 127 → All (Within b) vs → map signed (map byte_of vs) ≡ vs
+pub signed_bytes : (b : ℕ) (vs : List ℤ) → b ≤ 127 → AllByRecursion (Within b) vs → map signed (map byte_of vs) ≡ vs
 signed_bytes b [] h w = refl
 signed_bytes b (v ∷ vs) h (w, ws) = λ i. signed_byte b v h w i ∷ signed_bytes b vs h ws i
 
@@ -69,8 +69,8 @@ module _ {V : Type 0} (flags : List ℕ) (v : ℕ → V) where
         | inr t ↦ ap length (cond-false _ _ _ t) ∙ length_push (audited_of flags v n) (v n) ∙ ap (λ z. z + 1) (length-left_out n) ∙ sym (cond-false _ _ _ t)
       ]
 
-  pub all_left_out : (P : V → Type 0) → ((k : ℕ) → P (v k)) → (n : ℕ) → All P (audited_of flags v n)
+  pub all_left_out : (P : V → Type 0) → ((k : ℕ) → P (v k)) → (n : ℕ) → AllByRecursion P (audited_of flags v n)
   all_left_out P h zero = tt
   all_left_out P h (suc n) =
-      cond_both (eqb (get_or flags n 0) 1) (audited_of flags v n) (audited_of flags v n ++ (v n ∷ [])) (All P)
+      cond_both (eqb (get_or flags n 0) 1) (audited_of flags v n) (audited_of flags v n ++ (v n ∷ [])) (AllByRecursion P)
       (λ _. all_left_out P h n) (λ _. All-append P (audited_of flags v n) (v n ∷ []) (all_left_out P h n) (h n, tt))

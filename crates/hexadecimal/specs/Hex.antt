@@ -1,7 +1,7 @@
 -- Hexadecimal text: two digits a byte, the high half first.
 use Rattle.std.specs.Prelude.{◌≡◌, ℕ, ◌+◌, ◌-◌, ◌*◌, ◌/◌, ◌%◌, ◌<◌, Bool, cond, List, [], ◌∷◌, ◌++◌, length, is_some, Some, None, codes, decimal, Option, nat_lt}
 use Rattle.std.specs.Int.{is_in_range}
-use Rattle.std.specs.List.{flat_map, prefix_len, AllByRecursion as All}
+use Rattle.std.specs.List.{flat_map, prefix_len, AllByRecursion}
 use Rattle.hexadecimal.specs.declared.reading.DecodeError.{DecodeError}
 use Rattle.hexadecimal.specs.declared.reading.DecodeError.TheVariants.{OddLength, NotADigit, NoMemory}
 
@@ -52,4 +52,4 @@ error_line NoMemory = codes "no memory"
 
 -- reading gives back what was written
 abbrev pub ReadsBack : Type 0
-ReadsBack = (bs : List ℕ) → All (λ b. b < 256) bs → bytes_of (digits_of bs) ≡ Some bs
+ReadsBack = (bs : List ℕ) → AllByRecursion (λ b. b < 256) bs → bytes_of (digits_of bs) ≡ Some bs

@@ -23,7 +23,7 @@ fn digit(v: u8) -> char
 }
 
 fn write_byte<W: fmt::Write>(f: &mut fmt::Formatter<W>, b: u8) -> fmt::Result
-    ensures { WritesOnOk write_str_gives f.old result (digits b) f.new }
+    ensures { WritesOnOk W.write_str_gives f.old result (digits b) f.new }
 {
     f.write_char(digit(b / 16))?;
     f.write_char(digit(b % 16))

@@ -1,7 +1,7 @@
 -- A ceremony that is opened twice, lodged and recovered under the toy function: the definitions come to the bytes that an independent
 -- program gives, and every hypothesis of the guarantee is met by something.
 use Rattle.std.specs.Prelude.{◌≡◌, ℕ, ◌*◌, List, [], ◌∷◌, ◌++◌, get_or, take, replicate, Ok, Err, Result, slice_index, slice_index_or, slice_set}
-use Rattle.std.specs.List.{AllByRecursion as All}
+use Rattle.std.specs.List.{AllByRecursion}
 use Rattle.protocol.specs.declared.fault.Fault.{Fault}
 use Rattle.protocol.specs.declared.fault.Fault.TheVariants as fault
 use Rattle.protocol.specs.declared.fault.Layer.{Layer}
@@ -103,7 +103,7 @@ Refuses (spoiled at value n p l) = judged (slice_set first_record at value) ≡ 
 Refuses (twice at value at' value' n p l) = judged (slice_set (slice_set first_record at value) at' value') ≡ refused n p l
 
 abbrev pub SpoiledRefused : Type 0
-SpoiledRefused = All Refuses spoiled_records × All Refuses twice_spoiled
+SpoiledRefused = AllByRecursion Refuses spoiled_records × AllByRecursion Refuses twice_spoiled
 
 -- the other refusals of every call, in their order
 pub record Refusals : Type 0 where

@@ -1,6 +1,6 @@
 -- Worked examples, small enough to follow by hand.
 use Rattle.std.specs.Prelude.{◌≡◌, ℕ, ◌^◌, List, [], ◌∷◌, map, ℤ, pos, negsuc, slice_index}
-use Rattle.std.specs.List.{AllByRecursion as All}
+use Rattle.std.specs.List.{AllByRecursion}
 use Rattle.protocol.specs.Parameters.{table, work_words}
 use Rattle.protocol.specs.Layout.{record_length, entry_length}
 use Rattle.protocol.specs.Header.{parameters_of}
@@ -48,4 +48,4 @@ examples =
     ∷ []
 
 abbrev pub ExamplesHold : Type 0
-ExamplesHold = All Holds examples
+ExamplesHold = AllByRecursion Holds examples

@@ -1,6 +1,6 @@
 -- Shares, and the texts 6 and 7 that are rebuilt from an answered record alone.
 use Rattle.std.specs.Prelude.{◌≡◌, ℕ, zero, suc, ◌<◌, cond, List, [], ◌∷◌, ◌++◌, length, ℤ, pos, ◌==◌, slice_index, slice_index_or}
-use Rattle.std.specs.List.{flat_map, AllByRecursion as All}
+use Rattle.std.specs.List.{flat_map, AllByRecursion}
 use Rattle.protocol.specs.Flags.{ones, kept_index, audited_before}
 use Rattle.protocol.specs.Group.{completed}
 use Rattle.protocol.specs.Rule.{Rule}
@@ -51,11 +51,11 @@ pub record Fits {G : Type 0} (s : Setting G) (x : Transcript G) : Type 0 where
   pub flags : length x.flags ≡ s.values
   pub chosen : ones x.flags ≡ s.rule.kept
   pub key : length x.key ≡ s.rule.size
-  pub key_least : All (λ b. s.rule.entries.norm b ≡ b) x.key
+  pub key_least : AllByRecursion (λ b. s.rule.entries.norm b ≡ b) x.key
   pub hidden : (e : ℕ) → e < s.repetitions → x.hidden e < s.parties
   pub hidden_commitment : (e : ℕ) → e < s.repetitions → length (x.hidden_commitment e) ≡ s.width
   pub offsets : (e : ℕ) → e < s.repetitions → length (x.offsets e) ≡ s.values
-  pub offsets_least : (e : ℕ) → e < s.repetitions → All (λ o. s.rule.entries.norm o ≡ o) (x.offsets e)
+  pub offsets_least : (e : ℕ) → e < s.repetitions → AllByRecursion (λ o. s.rule.entries.norm o ≡ o) (x.offsets e)
 
 -- party j's share of value k; the offset is added to party 0's alone
 abbrev pub corrected : {G : Type 0} → Setting G → List ℕ → List G → ℕ → ℕ → List ℕ → ℕ → G

@@ -1,7 +1,7 @@
 //! The tree, node m as seed m of the words: its root is node 1, and the children of node p are 2·p and 2·p + 1.
 ghost use Rattle.std.specs.Prelude.{◌≡◌, ◌+◌, ◌*◌, ◌<◌, ◌≤◌, length};
 ghost use Rattle.std.specs.List.{flat_map};
-ghost use Rattle.protocol.specs.Ceremony.{root as rootOf};
+ghost use Rattle.protocol.specs.Ceremony.{root as root_of};
 ghost use Rattle.protocol.specs.Of.{parameters};
 ghost use Rattle.protocol.specs.Parameters.{parties};
 ghost use Rattle.protocol.specs.Streams.{drawn};
@@ -55,7 +55,7 @@ fn draw_root<D: DigestMaker>(
     master: &[u8; 32],
     out: &mut [u8; 32],
 )
-    ensures { out.new ≡ rootOf D.DigestMaker.function (short_bytes salt.now) master.now e }
+    ensures { out.new ≡ root_of D.DigestMaker.function (short_bytes salt.now) master.now e }
 {
     take_text(maker, 2, salt.as_slice(), &[e], master);
     maker.draw(out).unwrap();
@@ -71,7 +71,7 @@ pub fn grow<D: DigestMaker>(
     nodes: &mut [u16],
 )
     requires { 32 * parties (parameters header) ≤ length nodes.old }
-    ensures { Grown D.DigestMaker.function (short_bytes salt.now) e (rootOf D.DigestMaker.function (short_bytes salt.now) master.now e) (parameters header).h nodes.new }
+    ensures { Grown D.DigestMaker.function (short_bytes salt.now) e (root_of D.DigestMaker.function (short_bytes salt.now) master.now e) (parameters header).h nodes.new }
 {
     let mut root = [0; 32];
     draw_root(maker, salt, e, master, &mut root);

@@ -2,7 +2,7 @@
 ghost use Rattle.std.specs.Prelude.{◌≡◌, map, length, pos, slice_index_or};
 ghost use Rattle.protocol.specs.Of.{parameters};
 ghost use Rattle.protocol.specs.Parameters.{modulus};
-ghost use Rattle.protocol.specs.Residues.{residue as residueOf};
+ghost use Rattle.protocol.specs.Residues.{residue as residue_of};
 ghost use Rattle.protocol.specs.Sampling.{signed};
 ghost use Rattle.lattice.specs.Sets.{number};
 ghost use Rattle.shares.specs.Shown.{spread};
@@ -13,7 +13,7 @@ use protocol::header::Header;
 
 /// The audited value at a place, modulo q, and 0 past the last.
 fn residue_at(set: Set, bytes: &[u8], i: usize) -> u16
-    ensures { result ≡ residueOf (modulus (number set)) (slice_index_or (map signed bytes.now) i (pos 0)) }
+    ensures { result ≡ residue_of (modulus (number set)) (slice_index_or (map signed bytes.now) i (pos 0)) }
 {
     if i < bytes.len() {
         residue(set, from_byte(bytes[i]))

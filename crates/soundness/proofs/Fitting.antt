@@ -1,6 +1,6 @@
 -- A transcript that was read from a record's bytes fits.
 use Rattle.std.proofs.Common.{◌≡◌, ℕ, ◌+◌, ◌*◌, ◌%◌, ◌<◌, ◌≤◌, List, length, get_or, drop, mod-eq_of_lt, arith, length-drop}
-use Rattle.std.specs.List.{AllByRecursion as All}
+use Rattle.std.specs.List.{AllByRecursion}
 use Rattle.std.proofs.lemmas.List.{length-take-le}
 use Rattle.std.proofs.ByRecursion.{All-weaker}
 use Rattle.std.proofs.lemmas.Nat.{mul-le}
@@ -24,8 +24,8 @@ pub record Read (F : Digest) (p : Parameters) (r hidden flags : List ℕ) : Type
   pub flag_count : length flags ≡ p.m
   pub chosen : ones flags ≡ sigma p
   pub hidden_small : (e : ℕ) → e < p.tau → get_or hidden e 0 < parties p
-  pub key_small : All (λ b. b < modulus p.set) (transcript_of F p r hidden flags).key
-  pub offsets_small : (e : ℕ) → e < p.tau → All (λ b. b < modulus p.set) ((transcript_of F p r hidden flags).offsets e)
+  pub key_small : AllByRecursion (λ b. b < modulus p.set) (transcript_of F p r hidden flags).key
+  pub offsets_small : (e : ℕ) → e < p.tau → AllByRecursion (λ b. b < modulus p.set) ((transcript_of F p r hidden flags).offsets e)
 
 pub read_fits : (F X : Digest) (p : Parameters) (header r hidden flags : List ℕ) → Read F p r hidden flags →
     Fits (setting F X p header) (transcript_of F p r hidden flags)

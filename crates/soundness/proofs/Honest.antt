@@ -1,6 +1,6 @@
 -- An honest opening gives back its maker's texts.
 use Rattle.std.proofs.Common.{◌≡◌, ℕ, zero, suc, ◌+◌, ◌<◌, false, cond, eqb, List, [], ◌∷◌, ◌++◌, map, length, get_or, pos, sym, refl, ap, ◌∙◌, subst, inl, inr, arith}
-use Rattle.std.specs.List.{range_with_len, flat_map, AllByRecursion as All}
+use Rattle.std.specs.List.{range_with_len, flat_map, AllByRecursion}
 use Rattle.std.proofs.ByRecursion.{All-from_get_or}
 use Rattle.std.proofs.lemmas.List.{length_push, get_or_push, get_or_append_left}
 use Rattle.std.proofs.lemmas.List.FromFn.{get_or-map-range_with_len, length-map-range_with_len}
@@ -155,7 +155,7 @@ module _ {G : Type 0} {s : Setting G} (sound : Sound s) (p : Secret) (chosen : o
       (parts_same s.repetitions _ _ (λ e q. parts_same s.parties (party_part s x e) (honest_part s p e) (λ j r. party_true e j q)))
 
 -- every entry of a row made from a function is in least form, if the function's values are
-all_counted : {G : Type 0} (P : G → Type 0) (f : ℕ → G) (d : G) (n : ℕ) → ((k : ℕ) → P (f k)) → All P (map f (range_with_len 0 n))
+all_counted : {G : Type 0} (P : G → Type 0) (f : ℕ → G) (d : G) (n : ℕ) → ((k : ℕ) → P (f k)) → AllByRecursion P (map f (range_with_len 0 n))
 all_counted P f d n h =
     All-from_get_or P (map f (range_with_len 0 n)) d
     (λ i q. subst P (sym (get_or-map-range_with_len f 0 n i i d (let m = length-map-range_with_len f 0 n in omega arith) (omega arith))) (h i))

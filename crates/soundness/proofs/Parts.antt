@@ -1,6 +1,6 @@
 -- The fields of equal texts are equal.
 use Rattle.std.proofs.Common.{◌≡◌, ℕ, zero, suc, ◌+◌, ◌<◌, List, [], ◌∷◌, ◌++◌, length, take, drop, sym, refl, ap, ◌∙◌, inl, inr, arith}
-use Rattle.std.specs.List.{flat_map, AllByRecursion as All}
+use Rattle.std.specs.List.{flat_map, AllByRecursion}
 use Rattle.std.proofs.lemmas.List.{take_at, drop_at, length-append}
 use Rattle.std.proofs.lemmas.Bool.{cases_eq}
 use Rattle.protocol.specs.Group.{Entries, Lawful}
@@ -38,7 +38,7 @@ parts_same (suc n) f h e = λ i. parts_same n f h (λ k q. e k (omega arith)) i 
 
 module _ {G : Type 0} {g : Entries G} (l : Lawful g) where
   -- rows of entries in least form are told by their bytes
-  pub same_coded : (xs ys : List G) → length xs ≡ length ys → All (λ x. g.norm x ≡ x) xs → All (λ y. g.norm y ≡ y) ys →
+  pub same_coded : (xs ys : List G) → length xs ≡ length ys → AllByRecursion (λ x. g.norm x ≡ x) xs → AllByRecursion (λ y. g.norm y ≡ y) ys →
       flat_map g.code xs ≡ flat_map g.code ys → xs ≡ ys
   same_coded [] [] n p q e = refl
   same_coded [] (y ∷ ys) n p q e = absurd (omega arith)

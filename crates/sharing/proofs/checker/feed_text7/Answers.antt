@@ -20,7 +20,15 @@ pub invariant_of-known : goal.invariant_of-known
 unfolding spread
 invariant_of-known g c =
     let long : length c.args.values.now ≡ c.args.view.header.m = ap length c.requires.values ∙ length-map-range_with_len _ 0 c.args.view.header.m in
-    (c.requires.flags, (c.requires.kept, (omega arith, (omega arith, (long, (omega arith, omega arith))))))
+    record {
+      flags_long = c.requires.flags;
+      flags_kept = c.requires.kept;
+      nodes_long = omega arith;
+      offsets_long = omega arith;
+      values_long = long;
+      key_long = omega arith;
+      sums_long = omega arith;
+    }
 
 pub returns : goal.returns
 unfolding record_shares

@@ -15,7 +15,15 @@ pub invariant_of-known : goal.invariant_of-known
 invariant_of-known g c =
     let long : length c.args.values.now ≡ c.args.header.m =
     ap length c.requires.values ∙ length-values g.D.DigestMaker.function (parameters c.args.header) (short_bytes c.args.salt.now) c.args.master.now in
-    (c.requires.flags, (c.requires.kept, (omega arith, (omega arith, (long, (omega arith, omega arith))))))
+    record {
+      flags_long = c.requires.flags;
+      flags_kept = c.requires.kept;
+      nodes_long = omega arith;
+      offsets_long = omega arith;
+      values_long = long;
+      key_long = omega arith;
+      sums_long = omega arith;
+    }
 
 pub returns : goal.returns
 unfolding holder_shares

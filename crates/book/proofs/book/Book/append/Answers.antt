@@ -21,11 +21,11 @@ overflow_add-self-2 c = let n = few (state_of c.args.self.now) c.args.self.now.i
 
 pub invariant_of-self : goal.invariant_of-self
 invariant_of-self c =
-    let a : Entry = record { bytes = c.args.«record».now; hidden = c.args.hidden.now; flags = c.args.flags.now } in (
-      intact_added (state_of c.args.self.now) a (parameters c.args.header) c.requires.well c.requires.header c.requires.room c.args.self.now.intact
-          c.lay.new.memory.now c.entry_length.result c.lay.ensures.after c.entry_length.ensures,
-      tt,
-    )
+    let a : Entry = record { bytes = c.args.«record».now; hidden = c.args.hidden.now; flags = c.args.flags.now } in
+    record {
+      intact = intact_added (state_of c.args.self.now) a (parameters c.args.header) c.requires.well c.requires.header c.requires.room c.args.self.now.intact
+          c.lay.new.memory.now c.entry_length.result c.lay.ensures.after c.entry_length.ensures;
+    }
 
 pub returns : goal.returns
 returns c =
