@@ -1,4 +1,5 @@
 //! The book: entries end to end in lent memory.
+#![tactic(auto)]
 
 pub mod book;
 pub mod calls;

@@ -1,8 +1,8 @@
 -- A call that stops at one of its first tests has not used its makers.
-use Rattle.std.proofs.Common.{◌≡◌, ℕ, Bool, true, false, cond, List, [], ◌∷◌, Ok, Err, Result, refl, subst, arith}
+use Rattle.std.proofs.Common.{◌≡◌, ℕ, Bool, true, false, cond, List, [], ◌∷◌, Err, refl, subst, arith}
 use Rattle.std.specs.List.{AllByRecursion}
 use Rattle.protocol.specs.declared.fault.Fault.{Fault}
-use Rattle.protocol.specs.Ceremony.{memory_test, output_test}
+use Rattle.protocol.specs.Ceremony.{memory_test}
 use Rattle.protocol.specs.Header.{bare_tests, checks_header, length-test, parameters_of}
 use Rattle.protocol.specs.Tests.{Test, first_of}
 use Rattle.digest.specs.Handing.{after_digests, HandedBack}

@@ -1,5 +1,5 @@
 -- What a checker computes from a record is the record's part of the texts.
-use Rattle.std.proofs.Common.{◌≡◌, ℕ, ◌*◌, ◌^◌, ◌<◌, cond, eqb, ◌⊎◌, List, [], ◌++◌, map, length, get_or, pos, sym, refl, ap, ◌∙◌, subst, inl, inr, arith}
+use Rattle.std.proofs.Common.{◌≡◌, ℕ, ◌*◌, ◌<◌, cond, eqb, List, [], ◌++◌, map, length, get_or, pos, sym, ap, ◌∙◌, inl, inr}
 use Rattle.std.specs.List.{range_with_len, flat_map}
 use Rattle.std.proofs.lemmas.Bool.{cases_eq, cond-true, cond-false, eq-eqb, ne_eqb}
 use Rattle.protocol.specs.declared.field.Field.TheVariants.{SeedA, Salt, Key, Audited, Commitment, Seeds, Offsets}
@@ -25,8 +25,8 @@ use Rattle.soundness.proofs.Sums.{others_same, completed_at, completed_off}
 use Rattle.lattice.specs.Lines.{at}
 use Rattle.seedtree.specs.Grown.{Regrown}
 use Rattle.shares.specs.Shown.{shown, found, spread}
-use Rattle.shares.proofs.Products.{row_at, shown_same, found_same}
-use Rattle.sharing.specs.Parts.{scheme, record_commitments, record_shares}
+use Rattle.shares.proofs.Products.{row_at, found_same}
+use Rattle.sharing.specs.Parts.{scheme, record_commitments}
 use Rattle.sharing.specs.Rows.{leaf_in, held, others_held, commitment_in}
 use Rattle.sharing.proofs.Holding.{residues_lawful}
 

@@ -1,5 +1,5 @@
 -- What a holder computes from its tree is its part of the texts.
-use Rattle.std.proofs.Common.{◌≡◌, ℕ, ◌*◌, ◌^◌, ◌<◌, ◌≤◌, cond, eqb, List, [], ◌++◌, map, length, sym, refl, ap, ◌∙◌, arith}
+use Rattle.std.proofs.Common.{◌≡◌, ℕ, ◌<◌, eqb, List, [], ◌++◌, map, length, ap, ◌∙◌, arith}
 use Rattle.std.specs.List.{range_with_len, flat_map}
 use Rattle.std.proofs.lemmas.List.FromFn.{length-map-range_with_len}
 use Rattle.std.proofs.lemmas.Bool.{cond-false, ne_eqb}
@@ -24,7 +24,7 @@ use Rattle.seedtree.specs.Grown.{Grown}
 use Rattle.shares.specs.Drawing.{value_residues, share}
 use Rattle.shares.specs.Shown.{shown}
 use Rattle.shares.proofs.Products.{same_row, row_at, subtracted_row}
-use Rattle.sharing.specs.Parts.{scheme, holder, holder_offsets, holder_commitments, holder_shares}
+use Rattle.sharing.specs.Parts.{scheme, holder, holder_offsets, holder_commitments}
 use Rattle.sharing.specs.Rows.{leaf_in, summed, held, commitment_in}
 
 -- residues of a set add and subtract as a group

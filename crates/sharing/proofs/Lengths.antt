@@ -1,5 +1,5 @@
 -- How long a party's part of a text is at most.
-use Rattle.std.proofs.Common.{◌≡◌, ℕ, ◌+◌, ◌*◌, ◌≤◌, eqb, ◌⊎◌, List, length, ap, inl, inr, arith, pow_mono}
+use Rattle.std.proofs.Common.{ℕ, ◌+◌, ◌*◌, ◌≤◌, eqb, List, length, ap, inl, inr, arith, pow_mono}
 use Rattle.std.proofs.lemmas.List.FromFn.{length-map-range_with_len}
 use Rattle.std.proofs.lemmas.Bool.{cases_Bool, cases_eq, cond-true, cond-false}
 use Rattle.protocol.specs.Of.{parameters}

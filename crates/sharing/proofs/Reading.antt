@@ -1,12 +1,9 @@
 -- The fields of a record have their sizes.
-use Rattle.std.proofs.Common.{◌≡◌, ℕ, zero, suc, ◌+◌, ◌-◌, ◌*◌, ◌/◌, ◌%◌, ◌<◌, ◌≤◌, List, [], ◌∷◌, ◌++◌, map, length, get_or, refl, ap, ◌∙◌, arith}
-use Rattle.std.specs.List.{flat_map}
+use Rattle.std.proofs.Common.{◌≡◌, ℕ, ◌+◌, ◌*◌, ◌<◌, ◌≤◌, List, length, arith}
 use Rattle.std.proofs.lemmas.Nat.{mul-le}
 use Rattle.protocol.specs.declared.field.Field.TheVariants.{SeedA, Key, Commitment, Seeds, Offsets}
-use Rattle.protocol.specs.Bytes.{le16}
 use Rattle.protocol.specs.Layout.{offset, field_part, block_length, record_length}
 use Rattle.protocol.specs.Parameters.{Parameters, width}
-use Rattle.protocol.specs.Scheme.{words}
 use Rattle.soundness.proofs.Fitting.{length_part}
 
 module _ (p : Parameters) (r : List ℕ) (long : length r ≡ record_length p) where

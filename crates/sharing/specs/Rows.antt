@@ -1,6 +1,5 @@
 -- What the parties of a repetition hold, whose leaf seeds stand in a tree in memory.
-use Rattle.std.specs.Prelude.{ℕ, ◌+◌, cond, List, map, ◌==◌}
-use Rattle.std.specs.List.{range_with_len}
+use Rattle.std.specs.Prelude.{ℕ, ◌+◌, cond, List, ◌==◌}
 use Rattle.protocol.specs.Group.{others}
 use Rattle.protocol.specs.Parameters.{Parameters, width, parties, modulus}
 use Rattle.protocol.specs.Residues.{modular}

@@ -1,6 +1,5 @@
-use Rattle.std.proofs.Common.{◌≡◌, length, Ok, Err, sym, ap, ◌∙◌, arith, rules}
+use Rattle.std.proofs.Common.{◌≡◌, length, Ok, Err, sym, ap, ◌∙◌, rules}
 use Rattle.std.proofs.lemmas.Result.{err_from_is_err_and}
-use Rattle.protocol.specs.Ceremony as ceremony
 use Rattle.protocol.specs.Header.{checks_header}
 use Rattle.protocol.specs.Of.{parameters, read_as}
 use Rattle.protocol.specs.Parameters.{work_words}

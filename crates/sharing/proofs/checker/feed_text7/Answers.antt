@@ -1,12 +1,10 @@
-use Rattle.std.proofs.Common.{◌≡◌, ◌<◌, ◌⊎◌, length, get_or, refl, ap, ◌∙◌, subst, inl, inr, arith}
+use Rattle.std.proofs.Common.{◌≡◌, length, get_or, refl, ap, ◌∙◌, subst, inl, inr, arith}
 use Rattle.std.proofs.lemmas.List.FromFn.{length-map-range_with_len}
 use Rattle.std.proofs.lemmas.Bool.{cases_eq}
-use Rattle.protocol.specs.declared.field.Field.TheVariants.{Audited}
-use Rattle.protocol.specs.Layout.{field_part}
 use Rattle.protocol.specs.Of.{parameters}
 use Rattle.protocol.specs.Parameters.{parties}
 use Rattle.protocol.specs.Scheme.{transcript_of}
-use Rattle.protocol.specs.Sharing.{parts, party_part}
+use Rattle.protocol.specs.Sharing.{party_part}
 use Rattle.digest.specs.Making.{Took}
 use Rattle.digest.specs.Short.{short_bytes}
 use Rattle.soundness.proofs.Parts.{parts_same}

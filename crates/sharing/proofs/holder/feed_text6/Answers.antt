@@ -1,4 +1,4 @@
-use Rattle.std.proofs.Common.{◌≡◌, ◌*◌, ◌≤◌, [], length, subst, arith, rules}
+use Rattle.std.proofs.Common.{◌*◌, ◌≤◌, [], length, subst, arith, rules}
 use Rattle.protocol.specs.Of.{parameters}
 use Rattle.protocol.specs.Parameters.{parties}
 use Rattle.digest.specs.Making.{Took}

@@ -1,8 +1,7 @@
-use Rattle.std.proofs.Common.{◌≡◌, ℕ, ◌<◌, length, ap, ◌∙◌, subst, arith, rules}
+use Rattle.std.proofs.Common.{◌≡◌, length, ap, ◌∙◌, subst, arith}
 use Rattle.protocol.specs.Of.{parameters}
 use Rattle.protocol.specs.Parameters.{parties}
 use Rattle.protocol.specs.Prover.{honest_part}
-use Rattle.protocol.specs.Sharing.{parts}
 use Rattle.digest.specs.Making.{Took}
 use Rattle.digest.specs.Short.{short_bytes}
 use Rattle.soundness.proofs.Parts.{parts_same}

@@ -1,4 +1,4 @@
-use Rattle.std.proofs.Common.{◌≡◌, length, ap, ◌∙◌, arith, rules}
+use Rattle.std.proofs.Common.{◌≡◌, length, ap, ◌∙◌, arith}
 use Rattle.protocol.specs.Of.{parameters}
 use Rattle.digest.specs.Short.{short_bytes}
 use Rattle.sharing.proofs.Holding.{length-values, offsets_are}

@@ -1,4 +1,4 @@
-use Rattle.std.proofs.Common.{◌≡◌, ℕ, sym, ◌∙◌, subst}
+use Rattle.std.proofs.Common.{ℕ, sym, ◌∙◌, subst}
 use Rattle.protocol.specs.Of.{parameters}
 use Rattle.digest.specs.Making.{Took}
 use Rattle.digest.specs.Short.{short_bytes}

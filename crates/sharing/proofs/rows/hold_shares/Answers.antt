@@ -1,4 +1,4 @@
-use Rattle.std.proofs.Common.{◌≡◌, ℕ, eqb, sym, refl, ◌∙◌, arith}
+use Rattle.std.proofs.Common.{eqb, sym, refl, ◌∙◌}
 use Rattle.std.proofs.lemmas.Bool.{cond-true, cond-false, eq-eqb, ne_eqb}
 use Rattle.protocol.specs.Of.{parameters}
 use Rattle.digest.specs.Short.{short_bytes}

@@ -1,13 +1,12 @@
-use Rattle.std.proofs.Common.{◌≡◌, ℕ, ◌+◌, map, length, sym, refl, ap, ◌∙◌, arith, rules}
+use Rattle.std.proofs.Common.{◌≡◌, ℕ, ◌+◌, map, length, sym, ap, ◌∙◌, arith, rules}
 use Rattle.std.specs.List.{range_with_len}
 use Rattle.std.proofs.lemmas.List.FromFn.{fill_by_all}
 use Rattle.std.proofs.lemmas.List.{get_or-replicate, length-replicate}
-use Rattle.protocol.specs.Group.{Entries, others}
+use Rattle.protocol.specs.Group.{others}
 use Rattle.protocol.specs.Of.{parameters}
 use Rattle.protocol.specs.Parameters.{modulus, parties}
 use Rattle.protocol.specs.Residues.{modular}
 use Rattle.digest.specs.Short.{short_bytes}
-use Rattle.lattice.specs.Lines.{at}
 use Rattle.lattice.proofs.Entrywise.{others_skip, others_more}
 use Rattle.shares.specs.Drawing.{share}
 use Rattle.shares.proofs.Products.{same_row, row_at}
