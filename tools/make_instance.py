@@ -89,21 +89,21 @@ def main():
             raise AssertionError(due)
         except Refused as refused:
             assert refused.args == due
-    put("the-header", HEADER)
-    put("the-salt", SALT)
-    put("the-master", MASTER)
-    put("the-attributes", ATTRIBUTES)
-    put("the-seedA", SEED_A)
-    put("the-d1", p.d1)
-    put("the-d2", p.d2)
-    put("the-key", key, "S mod q, then B")
-    put("first-record", one)
-    put("second-record", two)
-    put("the-memory", memory, "the book after both were lodged")
-    put("the-recovered", seeds_and_values, "four leaf seeds of repetition 0, and eleven values")
+    put("the_header", HEADER)
+    put("the_salt", SALT)
+    put("the_master", MASTER)
+    put("the_attributes", ATTRIBUTES)
+    put("the_seed_a", SEED_A)
+    put("the_d1", p.d1)
+    put("the_d2", p.d2)
+    put("the_key", key, "S mod q, then B")
+    put("first_record", one)
+    put("second_record", two)
+    put("the_memory", memory, "the book after both were lodged")
+    put("the_recovered", seeds_and_values, "four leaf seeds of repetition 0, and eleven values")
 
     def differing(label, attributes, seedA):
-        """A record of other attributes or another seedA under the same digests, and where recover says that the texts differ."""
+        """A record of other attributes or another seed_a under the same digests, and where recover says that the texts differ."""
         q, _ = prover(attributes, seedA)
         assert (q.d1, q.d2) == (p.d1, p.d2)
         r = q.open(second(1))
@@ -114,18 +114,18 @@ def main():
 
     other, seed = other_attributes(p), other_seed(p)
     r6, at6 = differing(6, other, SEED_A)
-    put("other-attributes", other, "a collision of text 6: other attributes under the same digest")
-    put("other-text6-record", r6)
-    out.append(f"abbrev pub text6-differs-at : ℕ\ntext6-differs-at = {at6}\n")
+    put("other_attributes", other, "a collision of text 6: other attributes under the same digest")
+    put("other_text6_record", r6)
+    out.append(f"abbrev pub text6_differs_at : ℕ\ntext6_differs_at = {at6}\n")
 
     r7, at7 = differing(7, ATTRIBUTES, seed)
-    put("other-seedA", seed, "a collision of text 7: another seedA under the same digest")
-    put("other-text7-record", r7)
-    out.append(f"abbrev pub text7-differs-at : ℕ\ntext7-differs-at = {at7}\n")
+    put("other_seed_a", seed, "a collision of text 7: another seed_a under the same digest")
+    put("other_text7_record", r7)
+    out.append(f"abbrev pub text7_differs_at : ℕ\ntext7_differs_at = {at7}\n")
 
     both, at = differing(6, other, seed)
     assert at == at6
-    put("both-differ-record", both, "other attributes and another seedA")
+    put("both_differ_record", both, "other attributes and another seed_a")
 
     q, _ = prover(ATTRIBUTES, bytes(16))
     assert q.d1 == p.d1 and q.d2 != p.d2
@@ -135,7 +135,7 @@ def main():
         raise AssertionError
     except Refused as refused:
         assert refused.args == (17, 0, "book")
-    put("other-d2-record", apart, "a third seedA, under another d2")
+    put("other_d2_record", apart, "a third seed_a, under another d2")
 
     out.append("-- the first record with one byte changed, and the refusal that is due")
     rows = []
@@ -151,7 +151,7 @@ def main():
         except Refused as refused:
             number, place, layer = refused.args
             rows.append(f"spoiled {at} {value} {number} {place} {layer.capitalize()}")
-    out.append("abbrev pub spoiled-records : List Spoiled\nspoiled-records =\n    " + "\n    ∷ ".join(rows) + "\n    ∷ []\n")
+    out.append("abbrev pub spoiled_records : List Spoiled\nspoiled_records =\n    " + "\n    ∷ ".join(rows) + "\n    ∷ []\n")
 
     out.append("-- with two bytes changed, each of which alone is refused: the first test in the order decides")
     pairs = []
@@ -166,13 +166,12 @@ def main():
         except Refused as refused:
             number, place, layer = refused.args
             pairs.append(f"twice {at} {value} {then} {other} {number} {place} {layer.capitalize()}")
-    out.append("abbrev pub twice-spoiled : List Spoiled\ntwice-spoiled =\n    " + "\n    ∷ ".join(pairs) + "\n    ∷ []\n")
+    out.append("abbrev pub twice_spoiled : List Spoiled\ntwice_spoiled =\n    " + "\n    ∷ ".join(pairs) + "\n    ∷ []\n")
 
     head = """-- Values of one ceremony under a toy digest function, written by tools/make_instance.py.
-use Prim.Native.Nat.{ℕ}
-use mathlib.Core.List.{List, [], _∷_}
-use Rattle·protocol.specs.declared.fault.Layer.{Layer}
-use Rattle·protocol.specs.declared.fault.Layer.the-variants.{Header, Body, Digest}
+use Rattle.std.specs.Prelude.{ℕ, List, [], ◌∷◌}
+use Rattle.protocol.specs.declared.fault.Layer.{Layer}
+use Rattle.protocol.specs.declared.fault.Layer.TheVariants.{Header, Body, Digest}
 
 -- which byte, its new value, and the refusal's number, place and layer; or two bytes and values
 pub data Spoiled : Type 0 where

@@ -1,4 +1,5 @@
 //! Hexadecimal text: two digits a byte, the high half first.
+#![tactic(auto)]
 
 pub mod reading;
 pub mod writing;
@@ -12,7 +13,7 @@ mod tests {
     #[test]
     fn reads(rt: HostRuntime) -> Result<(), Fail> {
         let bytes = decode(rt.alloc(), "00fF7a9C")?;
-        assert_eq!(rt; bytes.as_slice(), &[0, 255, 122, 156]);
+        assert_eq!(rt; bytes.as_slice(), [0, 255, 122, 156].as_slice());
         assert!(rt; decode(rt.alloc(), "")?.is_empty());
         Ok(())
     }
