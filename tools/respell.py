@@ -5,8 +5,10 @@ usage: python3 tools/respell.py        at the top of the repository, once, after
 
 It goes over the .antt files and the ghost lines and clauses of the .rt files, without their strings, and renames each name that an .antt file of the
 repository declares, or imports under, with a dash (or as `seedA` and `getD`), wherever it stands as a whole word. What Rattle itself makes, as
-`loop-i-preserved`, keeps its dashes, and so does the first dash of `length-append` and its like, which joins two names. Functions of
-src/, strings, inputs and outputs are not touched. It stops where two names would fall together.
+`loop-i-preserved`, keeps its dashes, and so does the first dash of a lemma like `length-append`, which joins two names. The first
+failing test of an ordered list, which port.py calls `first_of`, as a tactic is called, is `first_failing`. Functions of src/, strings,
+inputs and outputs are not touched, and a product `A·S` in a comment, which port.py took for a path, is put back. It stops where two
+names would fall together.
 """
 
 import glob
@@ -20,6 +22,8 @@ HEADS = ("length", "get_or", "drop", "take")
 SHAPES = re.compile(r"^\s*(?:pub )?(?:record|data) ([^\s(){}:;=,.]+) [{(]")
 RENAMES = re.compile(r" as ([^\s(){}:;=,.]+)")
 LIBRARY = re.compile(r"^(?:ghost )?use (?:Rattle\.std\b|(?!Rattle\.))[^{]*\{([^}]*)\}")
+TESTS = re.compile(r"(?m)^(?:ghost )?use Rattle\.protocol\.specs\.Tests\.\{[^}]*\bfirst_of\b")
+PRODUCT = re.compile(r"\bA(?:\.|-as-)S\b")
 CLAUSE = re.compile(r"^\s*(ghost\b|requires\b|ensures\b|invariant\b)")
 
 
@@ -31,15 +35,15 @@ def rt_files():
     return sorted(glob.glob("crates/*/src/**/*.rt", recursive=True))
 
 
-def spelled(name):
-    name = name.replace("seedA", "seed_a").replace("getD", "get_or")
+def spelled(name, lemma=True):
+    name = name.replace("seedA", "seed_a").replace("getD", "get_or").replace("first-of-", "first-failing-").replace("first_of_", "first_failing_")
     if "-" not in name:
         return name
     if name[0].isupper():
         parts = name.split("-")
         return "".join(p[0].upper() + p[1:] for p in parts)
     head, _, rest = name.partition("-")
-    if head in HEADS:
+    if lemma and head in HEADS:
         return head + "-" + rest.replace("-", "_")
     return name.replace("-", "_")
 
@@ -85,7 +89,7 @@ def main():
     own, made = declared()
     table, taken, kept = {}, {}, borrowed()
     for name in sorted(own):
-        new = spelled(name)
+        new = spelled(name, not any("/specs/" in path for path in own[name]))
         if new != name and name not in made and name not in kept:
             table[name] = new
         taken.setdefault(new, set()).add(name)
@@ -94,6 +98,7 @@ def main():
         if len(olds) > 1:
             print(f"falls together: {sorted(olds)} as {new}: {sorted(set().union(*(own[o] for o in olds)))[:6]}")
             bad += 1
+    table.pop("first_of", None)
     table["seedA"] = "seed_a"
     both = sorted(n for n in made if n in own and spelled(n) != n)
     if both:
@@ -105,24 +110,26 @@ def main():
     if bad:
         return 1
 
-    def turn(text):
-        return WORD.sub(lambda m: table.get(m.group(0), m.group(0)), text)
+    def turn(text, more):
+        return WORD.sub(lambda m: more.get(m.group(0)) or table.get(m.group(0), m.group(0)), text)
 
     changed = 0
     for path in antt_files() + rt_files():
         with open(path, encoding="utf-8") as f:
-            old = f.read()
+            was = f.read()
+        more = {"first_of": "first_failing"} if TESTS.search(was) or path.endswith("protocol/specs/Tests.antt") else {}
+        old = PRODUCT.sub("A·S", was)
         if path.endswith(".antt"):
-            new = turn(old)
+            new = turn(old, more)
         else:
             new, depth = [], 0
             for line in old.split("\n"):
                 if depth > 0 or CLAUSE.match(line):
                     depth += line.count("{") - line.count("}")
-                    line = turn(line)
+                    line = turn(line, more)
                 new.append(line)
             new = "\n".join(new)
-        if new != old:
+        if new != was:
             changed += 1
             with open(path, "w", encoding="utf-8") as f:
                 f.write(new)

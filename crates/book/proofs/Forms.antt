@@ -1,4 +1,4 @@
--- What is known of a well_formed entry, and what makes one.
+-- What is known of a well-formed entry, and what makes one.
 use Rattle.std.proofs.Common.{◌≡◌, ℕ, ◌<◌, true, false, not, eqb, ltb, List, [], ◌∷◌, ◌++◌, length, get_or, Decides, refl, inl, inr, arith}
 use Rattle.std.specs.List.{AllByRecursion}
 use Rattle.std.proofs.ByRecursion.{All-get_or, All-from_get_or, All-push, All-weaker, Decides-by_and}

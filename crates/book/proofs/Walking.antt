@@ -10,7 +10,7 @@ use Rattle.protocol.specs.Parameters.{flag_length}
 use Rattle.guarantee.proofs.Books.{walk, length-entry, length-entries}
 use Rattle.guarantee.proofs.Keeping.{WellFormed, well_formed_told}
 use Rattle.book.specs.declared.place.Place.{Place}
-use Rattle.book.specs.Places.{length-of, end_of, Measured, Stands}
+use Rattle.book.specs.Places.{length_of, end_of, Measured, Stands}
 use Rattle.book.proofs.Forms.{formed, all_told, formed_at}
 
 module _ (a : Entry) (form : WellFormed a) (memory more : List ℕ) (at : ℕ) (p : Place) (here : drop at memory ≡ entry_bytes a ++ more) where
@@ -34,15 +34,15 @@ module _ (a : Entry) (form : WellFormed a) (memory more : List ℕ) (at : ℕ) (
       let hidden_long = form.hidden_long in
       let size = length-entry a (well_formed_told a form) in
       let flags_long : p.flags ≡ flag_length (parameters_of a.bytes) = m.flags_is ∙ (λ i. (low i + 256 * high i + 7) / 8) in
-      let whole : length (read_bytes a) ≡ length-of p = let x = m.record_is in let y = m.hidden_is in omega arith in
+      let whole : length (read_bytes a) ≡ length_of p = let x = m.record_is in let y = m.hidden_is in omega arith in
       record {
         record_long = m.record_is ∙ v;
         hidden_long = m.hidden_is ∙ repetitions ∙ sym hidden_long;
         flags_long = flags_long;
         within = let x = m.begins in omega arith;
         holds =
-            ap (λ k. part memory (k + 4) (length-of p)) m.begins
-            ∙ ap (take (length-of p)) body ∙ take_at (read_bytes a) more _ whole;
+            ap (λ k. part memory (k + 4) (length_of p)) m.begins
+            ∙ ap (take (length_of p)) body ∙ take_at (read_bytes a) more _ whole;
       }
 
 -- what lies past the entries of a book

@@ -8,11 +8,11 @@ use Rattle.protocol.specs.Parameters.{flag_length}
 use Rattle.book.specs.declared.place.Place.{Place}
 
 -- the length of an entry without its length field, and where it ends
-abbrev pub length-of : Place → ℕ
-length-of p = p.«record» + (p.hidden + p.flags)
+abbrev pub length_of : Place → ℕ
+length_of p = p.«record» + (p.hidden + p.flags)
 
 abbrev pub end_of : Place → ℕ
-end_of p = p.at + (4 + length-of p)
+end_of p = p.at + (4 + length_of p)
 
 -- what stands at an offset of a memory: the record's length, and behind it M and τ of its header
 pub record Measured (memory : List ℕ) (at : ℕ) (p : Place) : Type 0 where
@@ -27,4 +27,4 @@ pub record Stands (a : Entry) (memory : List ℕ) (p : Place) : Type 0 where
   pub hidden_long : p.hidden ≡ length a.hidden
   pub flags_long : p.flags ≡ flag_length (parameters_of a.bytes)
   pub within : end_of p ≤ length memory
-  pub holds : part memory (p.at + 4) (length-of p) ≡ read_bytes a
+  pub holds : part memory (p.at + 4) (length_of p) ≡ read_bytes a

@@ -1,7 +1,7 @@
 //! Entries by their place: how long they are, and their parts.
 ghost use Rattle.std.specs.Prelude.{◌≡◌, ◌+◌, ◌^◌, ◌<◌, ◌≤◌, length};
 ghost use Rattle.protocol.specs.Bytes.{part};
-ghost use Rattle.book.specs.Places.{length-of, end_of, Measured};
+ghost use Rattle.book.specs.Places.{length_of, end_of, Measured};
 
 use crate::place::{LENGTH_BYTES, Place};
 use crate::stored::Stored;
@@ -9,8 +9,8 @@ use crate::stored::Stored;
 impl Place {
     /// The length of the entry without its length field.
     pub(crate) fn length(self) -> usize
-        requires { length-of self < 2 ^ 64 }
-        ensures { result ≡ length-of self }
+        requires { length_of self < 2 ^ 64 }
+        ensures { result ≡ length_of self }
     {
         self.record + (self.hidden + self.flags)
     }

@@ -2,12 +2,12 @@
 ghost use Rattle.std.specs.Prelude.{◌≡◌, ◌≤◌, [], ◌∷◌, length};
 ghost use Rattle.protocol.specs.Ceremony.{commits, secret_of, memory_test};
 ghost use Rattle.protocol.specs.Effects.{wiped};
-ghost use Rattle.protocol.specs.Header.{length-test};
+ghost use Rattle.protocol.specs.Header.{length_test};
 ghost use Rattle.protocol.specs.Of.{parameters};
 ghost use Rattle.protocol.specs.Parameters.{width, work_words};
 ghost use Rattle.protocol.specs.Prover.{honest6};
 ghost use Rattle.protocol.specs.Streams.{drawn};
-ghost use Rattle.protocol.specs.Tests.{first_of};
+ghost use Rattle.protocol.specs.Tests.{first_failing};
 ghost use Rattle.keccak.specs.Sponge.{shake128};
 ghost use Rattle.digest.specs.Handing.{HandedBack};
 ghost use Rattle.digest.specs.Making.{Holding};
@@ -28,7 +28,7 @@ use texts::holder::digest_text6;
 
 /// Tests attributes and working memory against what the header tells.
 pub(crate) fn test_lent(header: Header, attributes: &[u8], words: &[u16]) -> Result<(), Fault>
-    ensures { result ≡ first_of (length-test (length attributes.now) (parameters header).a ∷ memory_test (length words.now) (work_words (parameters header)) ∷ []) tt }
+    ensures { result ≡ first_failing (length_test (length attributes.now) (parameters header).a ∷ memory_test (length words.now) (work_words (parameters header)) ∷ []) tt }
 {
     if attributes.len() != header.a as usize {
         return Err(Fault::Length {

@@ -6,7 +6,7 @@ ghost use Rattle.protocol.specs.Of.{parameters};
 ghost use Rattle.protocol.specs.Parameters.{width, sigma};
 ghost use Rattle.protocol.specs.Prover.{honest6, honest7};
 ghost use Rattle.protocol.specs.Streams.{drawn};
-ghost use Rattle.protocol.specs.Tests.{first_of};
+ghost use Rattle.protocol.specs.Tests.{first_failing};
 ghost use Rattle.digest.specs.Making.{Holding};
 ghost use Rattle.digest.specs.Short.{short_bytes};
 ghost use Rattle.shares.specs.Drawing.{value_residues};
@@ -23,7 +23,7 @@ use texts::holder::{digest_text6, digest_text7};
 
 /// A digest that was made anew must be the one that is kept.
 fn test_rebuilt(anew: &ShortBytes, kept: &ShortBytes) -> Result<(), Fault>
-    ensures { result ≡ first_of (rebuilt_test (short_bytes anew.now) (short_bytes kept.now) ∷ []) tt }
+    ensures { result ≡ first_failing (rebuilt_test (short_bytes anew.now) (short_bytes kept.now) ∷ []) tt }
 {
     if same_bytes(anew.as_slice(), kept.as_slice()) {
         Ok(())
@@ -47,7 +47,7 @@ pub(crate) fn rebuild_first<D: DigestMaker>(
     requires attributes { length attributes.now ≡ (parameters header).a }
     requires values { length values.old ≡ (parameters header).m }
     requires scratch { scratch_words (parameters header) ≤ length scratch.old }
-    ensures says { result ≡ first_of (rebuilt_test (drawn D.DigestMaker.function (honest6 (scheme D.DigestMaker.function (parameters header)) (secret_of D.DigestMaker.function (parameters header) (short_bytes salt.now) master.now attributes.now [] [] [])) (width (parameters header))) (short_bytes d1.now) ∷ []) tt }
+    ensures says { result ≡ first_failing (rebuilt_test (drawn D.DigestMaker.function (honest6 (scheme D.DigestMaker.function (parameters header)) (secret_of D.DigestMaker.function (parameters header) (short_bytes salt.now) master.now attributes.now [] [] [])) (width (parameters header))) (short_bytes d1.now) ∷ []) tt }
     ensures values { values.new ≡ value_residues D.DigestMaker.function (parameters header) (short_bytes salt.now) master.now }
     ensures short { Holding D.DigestMaker.function [] (D.DigestMaker.means short.new) }
     ensures long { Holding D.DigestMaker.function [] (D.DigestMaker.means long.new) }

@@ -3,7 +3,7 @@ use Rattle.std.specs.Prelude.{◌≡◌, ℕ, ◌+◌, Bool, cond, not, List, []
 use Rattle.protocol.specs.declared.fault.Fault.{Fault}
 use Rattle.protocol.specs.declared.fault.Fault.TheVariants.{Turn}
 use Rattle.protocol.specs.Streams.{First, Second, first_bytes}
-use Rattle.protocol.specs.Tests.{Test, first_of}
+use Rattle.protocol.specs.Tests.{Test, first_failing}
 use Rattle.digest.specs.Making.{Making, limit_test}
 
 -- both answers, the rest of the stream last started, if any, and the number of bytes filled from it since
@@ -23,7 +23,7 @@ asked_test m = record { fails = not (is_some m.rest); fault = Turn }
 
 -- the answer to a fill of n bytes
 abbrev pub nexts : Answering → ℕ → Result (Unit {0}) Fault
-nexts m n = first_of (asked_test m ∷ limit_test (m.filled + n) ∷ []) (tt {0})
+nexts m n = first_failing (asked_test m ∷ limit_test (m.filled + n) ∷ []) (tt {0})
 
 -- m' is m after the stream s was started
 pub record Started (s : ℕ → ℕ) (m m' : Answering) : Type 0 where

@@ -1,10 +1,10 @@
 //! Flags as bits of bytes: value k is bit k mod 8 of byte k div 8.
 ghost use Rattle.std.specs.Prelude.{◌≡◌, ℕ, ◌+◌, ◌*◌, ◌/◌, ◌%◌, ◌^◌, ◌<◌, ◌≤◌, cond, [], ◌∷◌, length, MatchResult, slice_index};
 ghost use Rattle.protocol.specs.Flags.{bits, packed, unpacked, bits_set};
-ghost use Rattle.protocol.specs.Header.{length-test};
+ghost use Rattle.protocol.specs.Header.{length_test};
 ghost use Rattle.protocol.specs.Of.{parameters};
 ghost use Rattle.protocol.specs.Parameters.{flag_length};
-ghost use Rattle.protocol.specs.Tests.{first_of};
+ghost use Rattle.protocol.specs.Tests.{first_failing};
 ghost use Rattle.challenge.specs.Counting.{counts, Plain};
 
 use protocol::fault::Fault;

@@ -2,11 +2,11 @@
 ghost use Rattle.std.specs.Prelude.{◌≡◌, ℕ, ◌+◌, ◌%◌, ◌<◌, ◌≤◌, [], ◌∷◌, length, replicate, MatchResult, OnOk, slice_index};
 ghost use Rattle.protocol.specs.Flags.{ones};
 ghost use Rattle.challenge.specs.Counting.{Plain};
-ghost use Rattle.protocol.specs.Header.{length-test};
+ghost use Rattle.protocol.specs.Header.{length_test};
 ghost use Rattle.protocol.specs.Of.{parameters};
 ghost use Rattle.protocol.specs.Parameters.{sigma, parties};
 ghost use Rattle.protocol.specs.Selection.{keep as kept_with, selected, hidden_parties};
-ghost use Rattle.protocol.specs.Tests.{first_of};
+ghost use Rattle.protocol.specs.Tests.{first_failing};
 ghost use Rattle.digest.specs.Short.{short_bytes};
 ghost use Rattle.challenge.specs.Answering.{SameAnswers};
 
@@ -66,7 +66,7 @@ pub fn select_kept<C: Challenger>(
     header: Header,
     flags: &mut [u16],
 ) -> Result<(), Fault>
-    ensures answer { result ≡ first_of (length-test (length flags.old) (parameters header).m ∷ []) tt }
+    ensures answer { result ≡ first_failing (length_test (length flags.old) (parameters header).m ∷ []) tt }
     ensures flags { MatchResult result (λ _. flags.new ≡ selected ((C.Challenger.answers challenger.old).first (short_bytes salt.now) (short_bytes d1.now)) (parameters header).m (sigma (parameters header))) (λ _. flags.new ≡ flags.old) }
     ensures asked { MatchResult result (λ _. SameAnswers (C.Challenger.answers challenger.old) (C.Challenger.answers challenger.new)) (λ _. C.Challenger.answers challenger.new ≡ C.Challenger.answers challenger.old) }
     ensures chosen { OnOk result (Plain flags.new × (ones flags.new ≡ sigma (parameters header))) }
@@ -99,7 +99,7 @@ pub fn choose_hidden<C: Challenger>(
     header: Header,
     hidden: &mut [u8],
 ) -> Result<(), Fault>
-    ensures answer { result ≡ first_of (length-test (length hidden.old) (parameters header).tau ∷ []) tt }
+    ensures answer { result ≡ first_failing (length_test (length hidden.old) (parameters header).tau ∷ []) tt }
     ensures hidden { MatchResult result (λ _. hidden.new ≡ hidden_parties ((C.Challenger.answers challenger.old).second (short_bytes salt.now) (short_bytes d1.now) (short_bytes d2.now)) (parties (parameters header)) (parameters header).tau) (λ _. hidden.new ≡ hidden.old) }
     ensures asked { MatchResult result (λ _. SameAnswers (C.Challenger.answers challenger.old) (C.Challenger.answers challenger.new)) (λ _. C.Challenger.answers challenger.new ≡ C.Challenger.answers challenger.old) }
 {

@@ -6,7 +6,7 @@ use Rattle.std.proofs.lemmas.Bool.{le-ltb, lt-ltb, ltb-true, ltb-false}
 use Rattle.protocol.specs.declared.fault.Fault.{Fault}
 use Rattle.protocol.specs.declared.fault.Fault.TheVariants.{Turn, PastLimit}
 use Rattle.protocol.specs.Streams.{Digest, first_bytes}
-use Rattle.protocol.specs.Tests.{first_of}
+use Rattle.protocol.specs.Tests.{first_failing}
 use Rattle.digest.specs.Parts.{text_of, digests}
 use Rattle.digest.specs.Making.{Making, limit, takes, draws, limit_test, Took, Drew, Holding}
 
@@ -23,10 +23,10 @@ module _ {F : Digest} {text : List ℕ} {m : Making} (h : Holding F text m) wher
   holding_stream = fun_ext (λ i. h.rule_is [] i ∙ ap (λ z. F z i) (append-nil text))
 
   -- a take is refused only past the limit
-  pub holding_takes : (n : ℕ) → takes m n ≡ first_of (limit_test (length text + n) ∷ []) (tt {0})
+  pub holding_takes : (n : ℕ) → takes m n ≡ first_failing (limit_test (length text + n) ∷ []) (tt {0})
   holding_takes n = λ i. cond (ltb 0 (h.drawn i)) (Err Turn) (cond (ltb limit (h.taken i + n)) (Err PastLimit) (Ok (tt {0})))
 
-  pub holding_draws : (n : ℕ) → draws m n ≡ first_of (limit_test n ∷ []) (tt {0})
+  pub holding_draws : (n : ℕ) → draws m n ≡ first_failing (limit_test n ∷ []) (tt {0})
   holding_draws n = λ i. cond (ltb limit (zero_add n h.drawn i)) (Err PastLimit) (Ok (tt {0}))
     where
       zero_add : (n : ℕ) {d : ℕ} → d ≡ 0 → d + n ≡ n
@@ -63,10 +63,10 @@ text_front (p ∷ ps) (suc i) =
 
 -- a take that was refused was past the limit
 pub refused_past : {F : Digest} {text : List ℕ} {m : Making} (n all : ℕ) (f : Fault) → Holding F text m → Err f ≡ takes m n → length text + n ≤ all →
-    Err f ≡ first_of (limit_test all ∷ []) (tt {0})
+    Err f ≡ first_failing (limit_test all ∷ []) (tt {0})
 refused_past {F} {text} {m} n all f h e le = over (ltb limit (length text + n)) refl (e ∙ holding_takes h n)
   where
-    over : (b : Bool) → ltb limit (length text + n) ≡ b → Err f ≡ cond (ltb limit (length text + n)) (Err PastLimit) (Ok (tt {0})) → Err f ≡ first_of (limit_test all ∷ []) (tt {0})
+    over : (b : Bool) → ltb limit (length text + n) ≡ b → Err f ≡ cond (ltb limit (length text + n)) (Err PastLimit) (Ok (tt {0})) → Err f ≡ first_failing (limit_test all ∷ []) (tt {0})
     over true t a =
         let big : limit < all = let z = ltb-true limit (length text + n) t in omega arith in
         a ∙ (ap (λ b. cond b (Err PastLimit) (Ok (tt {0}))) t ∙ sym (ap (λ b. cond b (Err PastLimit) (Ok (tt {0}))) (lt-ltb limit all big)))
@@ -87,7 +87,7 @@ accepted_within {F} {text} {m} n h e = under (ltb limit (length text + n)) refl 
 -- the first draw on a text: refused past the limit alone, or the front of the stream
 pub first_draw : {F : Digest} {text : List ℕ} {m : Making} (m' : Making) (r : Result (Unit {0}) Fault) (old out : List ℕ) → Holding F text m → length out ≡ length old →
     r ≡ draws m (length old) → MatchResult r (λ _. Drew out m m') (λ _. (out ≡ old) × (m' ≡ m)) →
-    (r ≡ first_of (limit_test (length old) ∷ []) (tt {0})) × MatchResult r (λ _. out ≡ first_bytes (F text) (length old)) (λ _. out ≡ old)
+    (r ≡ first_failing (limit_test (length old) ∷ []) (tt {0})) × MatchResult r (λ _. out ≡ first_bytes (F text) (length old)) (λ _. out ≡ old)
 first_draw {F} {text} {m} m' (Ok u) old out h long a k =
     (a ∙ holding_draws h (length old), k.bytes ∙ (λ i. first_bytes (holding_stream h i) (long i)))
 first_draw m' (Err f) old out h long a k = (a ∙ holding_draws h (length old), k.0)
@@ -105,7 +105,7 @@ one_more parts i d {F} {m} {m'} less h a k =
 
 -- a part that is refused
 pub one_refused : (parts : List (Bor (List ℕ))) (i : ℕ) (d : Bor (List ℕ)) {F : Digest} {m : Making} (f : Fault) → i < length parts →
-    Holding F (text_of (take i parts)) m → Err f ≡ takes m (length (get_or parts i d).now) → Err f ≡ first_of (limit_test (length (text_of parts)) ∷ []) (tt {0})
+    Holding F (text_of (take i parts)) m → Err f ≡ takes m (length (get_or parts i d).now) → Err f ≡ first_failing (limit_test (length (text_of parts)) ∷ []) (tt {0})
 one_refused parts i d f less h a =
     let more = text_more parts i d less in
     refused_past (length (get_or parts i d).now) (length (text_of parts)) f h a
@@ -114,7 +114,7 @@ one_refused parts i d f less h a =
 -- all parts were taken
 pub all_taken : (parts : List (Bor (List ℕ))) (i : ℕ) {F : Digest} {m : Making} → length parts ≤ i → Holding F (text_of (take i parts)) m →
     length (text_of (take i parts)) ≤ limit →
-    (Ok (tt {0}) ≡ first_of (limit_test (length (text_of parts)) ∷ []) (tt {0})) × Holding F (text_of parts) m
+    (Ok (tt {0}) ≡ first_failing (limit_test (length (text_of parts)) ∷ []) (tt {0})) × Holding F (text_of parts) m
 all_taken parts i {F} {m} end h le =
     let all : take i parts ≡ parts = take_all i parts end in (
       sym (ap (λ b. cond b (Err PastLimit) (Ok (tt {0}))) (le-ltb limit (length (text_of parts)) (subst (λ p. length (text_of p) ≤ limit) all le))),
@@ -122,16 +122,16 @@ all_taken parts i {F} {m} end h le =
     )
 
 -- the text's test before the output's
-pub then_drawn : (t n : ℕ) (r : Result (Unit {0}) Fault) → Ok (tt {0}) ≡ first_of (limit_test t ∷ []) (tt {0}) → r ≡ first_of (limit_test n ∷ []) (tt {0}) → r ≡ digests t n
+pub then_drawn : (t n : ℕ) (r : Result (Unit {0}) Fault) → Ok (tt {0}) ≡ first_failing (limit_test t ∷ []) (tt {0}) → r ≡ first_failing (limit_test n ∷ []) (tt {0}) → r ≡ digests t n
 then_drawn t n r a b = go (ltb limit t) a
   where
-    go : (u : Bool) → Ok (tt {0}) ≡ cond u (Err PastLimit) (Ok (tt {0})) → r ≡ cond u (Err PastLimit) (first_of (limit_test n ∷ []) (tt {0}))
+    go : (u : Bool) → Ok (tt {0}) ≡ cond u (Err PastLimit) (Ok (tt {0})) → r ≡ cond u (Err PastLimit) (first_failing (limit_test n ∷ []) (tt {0}))
     go true e = let z : ◌≡◌ {A = ℕ} 0 1 = cc in absurd (omega arith)
     go false e = b
 
-pub then_refused : (t n : ℕ) (f : Fault) → Err f ≡ first_of (limit_test t ∷ []) (tt {0}) → Err f ≡ digests t n
+pub then_refused : (t n : ℕ) (f : Fault) → Err f ≡ first_failing (limit_test t ∷ []) (tt {0}) → Err f ≡ digests t n
 then_refused t n f a = go (ltb limit t) a
   where
-    go : (u : Bool) → Err f ≡ cond u (Err PastLimit) (Ok (tt {0})) → Err f ≡ cond u (Err PastLimit) (first_of (limit_test n ∷ []) (tt {0}))
+    go : (u : Bool) → Err f ≡ cond u (Err PastLimit) (Ok (tt {0})) → Err f ≡ cond u (Err PastLimit) (first_failing (limit_test n ∷ []) (tt {0}))
     go true e = e
     go false e = let z : ◌≡◌ {A = ℕ} 0 1 = cc in absurd (omega arith)

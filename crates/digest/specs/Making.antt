@@ -3,7 +3,7 @@ use Rattle.std.specs.Prelude.{◌≡◌, ℕ, ◌+◌, ◌≤◌, List, [], ◌�
 use Rattle.protocol.specs.declared.fault.Fault.{Fault}
 use Rattle.protocol.specs.declared.fault.Fault.TheVariants.{Turn, PastLimit}
 use Rattle.protocol.specs.Streams.{Digest, first_bytes}
-use Rattle.protocol.specs.Tests.{Test, first_of}
+use Rattle.protocol.specs.Tests.{Test, first_failing}
 
 -- how many bytes a maker takes, and gives, at most
 abbrev pub limit : ℕ
@@ -26,10 +26,10 @@ limit_test n = record { fails = nat_lt limit n; fault = PastLimit }
 
 -- the answer to a take of n bytes, and to a draw of n bytes
 abbrev pub takes : Making → ℕ → Result (Unit {0}) Fault
-takes m n = first_of (turn_test m ∷ limit_test (m.taken + n) ∷ []) (tt {0})
+takes m n = first_failing (turn_test m ∷ limit_test (m.taken + n) ∷ []) (tt {0})
 
 abbrev pub draws : Making → ℕ → Result (Unit {0}) Fault
-draws m n = first_of (limit_test (m.drawn + n) ∷ []) (tt {0})
+draws m n = first_failing (limit_test (m.drawn + n) ∷ []) (tt {0})
 
 -- a maker of the kind F that was begun, has taken the text since, and gave nothing
 pub record Holding (F : Digest) (text : List ℕ) (m : Making) : Type 0 where

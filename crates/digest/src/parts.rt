@@ -1,7 +1,7 @@
 //! Digests of texts that lie in parts.
 ghost use Rattle.std.specs.Prelude.{◌≡◌, [], ◌∷◌, length, MatchResult, OnOk};
 ghost use Rattle.protocol.specs.Streams.{drawn};
-ghost use Rattle.protocol.specs.Tests.{first_of};
+ghost use Rattle.protocol.specs.Tests.{first_failing};
 ghost use Rattle.digest.specs.Making.{Holding, limit_test};
 ghost use Rattle.digest.specs.Parts.{text_of, digests};
 
@@ -32,7 +32,7 @@ pub fn digest_parts<D: DigestMaker>(
 /// Has a maker that was begun take the parts one after the other.
 fn take_parts<D: DigestMaker>(maker: &mut D, parts: &[&[u8]]) -> Result<(), Fault>
     requires { Holding D.DigestMaker.function [] (D.DigestMaker.means maker.old) }
-    ensures answer { result ≡ first_of (limit_test (length (text_of parts.now)) ∷ []) tt }
+    ensures answer { result ≡ first_failing (limit_test (length (text_of parts.now)) ∷ []) tt }
     ensures holds { OnOk result (Holding D.DigestMaker.function (text_of parts.now) (D.DigestMaker.means maker.new)) }
 {
     for part in parts {

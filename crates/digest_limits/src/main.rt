@@ -1,11 +1,13 @@
 //! Brings both kinds of maker to their limit, 4,294,967,295 bytes taken and as many drawn, and prints what they answer there: each line
-//! is the numbers of the refusals of some calls in a row, 0 for an accepted one.
+//! is the numbers of the refusals of some calls in a row, 0 for an accepted one. With the word `numbers` no bytes are taken and drawn on
+//! the way there: makers are made that count as many, which takes no time, and the lines are the same.
 #![tactic(auto)]
 
 use digest::maker::{DigestMaker, LIMIT};
 use keccak::shake256::Shake256;
 use protocol::fault::Fault;
 use sha512::stretched::Stretched;
+use std::env;
 
 /// A refusal's number, and 0 for an accepted call.
 fn number(answer: Result<(), Fault>) -> u8 {
@@ -88,7 +90,33 @@ fn show<D: DigestMaker>(
     show_turn(rt, name, maker)
 }
 
+/// The same of two makers that stand at the edges already: the first of its bytes taken, the second of its bytes drawn.
+fn show_numbers<D: DigestMaker>(
+    rt: &HostRuntime,
+    name: &str,
+    taking: &mut D,
+    drawing: &mut D,
+) -> anyhow::Result<()> {
+    show_takes(rt, name, taking)?;
+    show_draws(rt, name, drawing)?;
+    show_turn(rt, name, drawing)
+}
+
+/// Both kinds of maker, made to count what they would after as many bytes.
+fn show_by_numbers(rt: &HostRuntime) -> anyhow::Result<()> {
+    let edge = LIMIT - 5;
+    let mut taking = Shake256::with_counts(edge, 0).unwrap();
+    let mut drawing = Shake256::with_counts(LIMIT, edge).unwrap();
+    show_numbers(rt, "shake256", &mut taking, &mut drawing)?;
+    let mut taking = Stretched::with_counts(edge, 0).unwrap();
+    let mut drawing = Stretched::with_counts(LIMIT, edge).unwrap();
+    show_numbers(rt, "sha512", &mut taking, &mut drawing)
+}
+
 fn main(rt: HostRuntime) -> anyhow::Result<()> {
+    if env::args(&rt)?.any(|word| word.as_str() == "numbers") {
+        return show_by_numbers(&rt);
+    }
     let mut piece = vec![in rt.alloc(); 0u8; 16_777_216]?;
     let mut shake = Shake256::new();
     show(&rt, "shake256", &mut shake, piece.as_mut_slice())?;

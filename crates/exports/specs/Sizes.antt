@@ -1,4 +1,4 @@
--- Sizes that go together in a row of A-as-S + E, and are not past those of a header.
+-- Sizes that go together in a row of A·S + E, and are not past those of a header.
 use Rattle.std.specs.Prelude.{ℕ, ◌*◌, Bool, ◌&&◌, List, length, ◌==◌, nat_le}
 
 abbrev pub fits : List ℕ → List ℕ → List ℕ → List ℕ → Bool

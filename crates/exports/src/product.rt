@@ -1,4 +1,4 @@
-//! One row of A.S + E as a C function.
+//! One row of A·S + E as a C function.
 ghost use Rattle.std.specs.Prelude.{◌≡◌, ℕ, ◌<◌, length, MatchBool};
 ghost use Rattle.lattice.specs.Lines.{at, row_entry};
 ghost use Rattle.exports.specs.Sizes.{fits};
@@ -15,7 +15,7 @@ fn fits(row: &[u16], columns: &[u16], errors: &[u16], out: &[u16]) -> bool
         && errors.len() == out.len()
 }
 
-/// A row of A.S + E mod 32768, of the row of A, S by columns and the row of E; false, and the buffer as it was, where the sizes do not
+/// A row of A·S + E mod 32768, of the row of A, S by columns and the row of E; false, and the buffer as it was, where the sizes do not
 /// go together or are past those of a header.
 #[unsafe(no_mangle)]
 pub extern "C" fn zaghmikhe_multiply_row(

@@ -14,7 +14,7 @@ use Rattle.protocol.specs.Book.{State, appended, lodges, room_tests, body_tests,
 use Rattle.protocol.specs.Ceremony.{Committed, Keyed, key_tests, with_d2, open_tests, memory_test, text_six, text_seven, opening, hides, before_key, record_bytes}
 use Rattle.protocol.specs.Entry.{transcript, setting_of, chosen, rebuilt6, rebuilt7, salt_of, d1_of, d2_of}
 use Rattle.protocol.specs.Guarantee.{Completeness, Guarantee}
-use Rattle.protocol.specs.Header.{parameters_of, header_tests, bare_tests, limits, length-test, checks_header, reads_record}
+use Rattle.protocol.specs.Header.{parameters_of, header_tests, bare_tests, limits, length_test, checks_header, reads_record}
 use Rattle.protocol.specs.Layout.{record_length, entry_length}
 use Rattle.protocol.specs.Parameters.{width, sigma, parties, work_words}
 use Rattle.protocol.specs.Runs.{Commits, Keys, lodged, committed, key_refused, keyed, open_refused, opened}
@@ -22,7 +22,7 @@ use Rattle.protocol.specs.Scheme.{setting, transcript_of}
 use Rattle.protocol.specs.Selection.{selected, hidden_parties}
 use Rattle.protocol.specs.Sharing.{text6, text7}
 use Rattle.protocol.specs.Streams.{Digest, First, Second, GivesBytes, first_bytes, drawn}
-use Rattle.protocol.specs.Tests.{first_of, after}
+use Rattle.protocol.specs.Tests.{first_failing, after}
 
 drawn_long : (F : Digest) (text : List ℕ) (n : ℕ) → length (drawn F text n) ≡ n
 unfolding first_bytes
@@ -41,8 +41,8 @@ sworn F X c (committed header salt master attributes work hl sl ml p) =
     let heads = accepted (bare_tests header) x one.0 one.1 in
     let given : Parameters → Committed = λ y. record { header = header; salt = salt; master = master; d1 = drawn F (text_six F X header salt master attributes) (width y) } in
     let made : Committed = given x in
-    let then = subst (λ y. first_of (length-test (length attributes) y.a ∷ memory_test work (work_words y) ∷ []) (given y) ≡ Ok c) (sym heads.1) one.2 in
-    let rest = accepted (length-test (length attributes) x.a ∷ memory_test work (work_words x) ∷ []) made c then in
+    let then = subst (λ y. first_failing (length_test (length attributes) y.a ∷ memory_test work (work_words y) ∷ []) (given y) ≡ Ok c) (sym heads.1) one.2 in
+    let rest = accepted (length_test (length attributes) x.a ∷ memory_test work (work_words x) ∷ []) made c then in
     let here : Sworn made = record { header = hl; tests = bare_passes header hl heads.0; salt = sl; d1 = drawn_long F (text_six F X header salt master attributes) 32 } in
     subst Sworn rest.1 here
 sworn F X c (key_refused before G1 attributes seed_a work room f p) = sworn F X c before
@@ -105,7 +105,7 @@ module _ (F X : Digest) (bytes : GivesBytes F) (G1 : First) (G2 : Second) (k : K
   reads_ok : reads_record r ≡ Ok (parameters_of r)
   reads_ok =
       after_passed (header_tests r) (parameters_of r) _ (longer_passes k.header r ok.header is_header (omega (arith, long)) ok.tests)
-      ∙ passed (length-test (length r) (record_length (parameters_of r)) ∷ []) (parameters_of r)
+      ∙ passed (length_test (length r) (record_length (parameters_of r)) ∷ []) (parameters_of r)
       (not_from_true _ (eq-eqb (length r) (record_length (parameters_of r)) (long ∙ ap record_length (sym heads))), tt)
 
   hides_is : (chosen H1 H2 r).hidden ≡ hides F X G1 G2 k attributes
@@ -139,7 +139,7 @@ module _ (F X : Digest) (bytes : GivesBytes F) (G1 : First) (G2 : Second) (k : K
 
   pub lodge_accepts : (s : State) (work : ℕ) → work_words (parameters_of r) ≤ work → s.used + entry_length (parameters_of r) ≤ length s.memory → lodges F X H1 H2 s r work ≡ Ok s.count
   lodge_accepts s work enough room =
-      ap (λ z. after z (λ x. after (first_of (room_tests s x work) (tt {0})) (λ _. after (first_of (body_tests r x) (tt {0})) (λ _. first_of (digest_tests F X (chosen H1 H2 r)) s.count)))) reads_ok
+      ap (λ z. after z (λ x. after (first_failing (room_tests s x work) (tt {0})) (λ _. after (first_failing (body_tests r x) (tt {0})) (λ _. first_failing (digest_tests F X (chosen H1 H2 r)) s.count)))) reads_ok
       ∙ after_passed (room_tests s (parameters_of r) work) (tt {0}) _ (le-ltb work _ enough, (le-ltb _ _ room, tt))
       ∙ after_passed (body_tests r (parameters_of r)) (tt {0}) _ (subst (λ y. Passes (body_tests r y)) (sym heads) (body_passes F X bytes G1 G2 k attributes ok attributes-long))
       ∙ passed (digest_tests F X (chosen H1 H2 r)) s.count (not_differ _ _ first_ok, (not_differ _ _ second_ok, tt))

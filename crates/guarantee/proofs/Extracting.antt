@@ -35,12 +35,12 @@ use Rattle.protocol.specs.Residues.{matrix, modular, residue, residue_in, dot}
 use Rattle.protocol.specs.Scheme.{setting, transcript_of}
 use Rattle.protocol.specs.Sharing.{Fits, parts, text6, text7}
 use Rattle.protocol.specs.Streams.{Digest, drawn}
-use Rattle.protocol.specs.Tests.{Test, first_of, after}
+use Rattle.protocol.specs.Tests.{Test, first_failing, after}
 use Rattle.protocol.specs.Texts.{leaf_text}
 use Rattle.guarantee.proofs.Offsets.{offsets_at}
 use Rattle.soundness.proofs.Fitting.{length_part}
 
-pub after_passed : {X Y : Type 0} (ts : List Test) (x : X) (next : X → Result Y Fault) → Passes ts → after (first_of ts x) next ≡ next x
+pub after_passed : {X Y : Type 0} (ts : List Test) (x : X) (next : X → Result Y Fault) → Passes ts → after (first_failing ts x) next ≡ next x
 after_passed ts x next p = ap (λ r. after r next) (passed ts x p)
 
 pub not_differ : (xs ys : List ℕ) → xs ≡ ys → not (bytes_eq xs ys) ≡ false

@@ -16,12 +16,12 @@ use Rattle.protocol.specs.Book.{no_entry, State, lodges, body_tests, digest_test
 use Rattle.protocol.specs.Entry.{Entry, chosen, rebuilt6, rebuilt7, salt_of, d1_of, d2_of}
 use Rattle.protocol.specs.Guarantee.{Custody}
 use Rattle.protocol.specs.Flags.{ones}
-use Rattle.protocol.specs.Header.{parameters_of, header_tests, length-test, reads_header, reads_record}
+use Rattle.protocol.specs.Header.{parameters_of, header_tests, length_test, reads_header, reads_record}
 use Rattle.protocol.specs.Layout.{record_length, entry_length}
 use Rattle.protocol.specs.Parameters.{sigma, parties}
 use Rattle.protocol.specs.Runs.{Run, began, lodged, refused, read, recovered}
 use Rattle.protocol.specs.Streams.{Digest, First, Second, drawn}
-use Rattle.protocol.specs.Tests.{first_of, after}
+use Rattle.protocol.specs.Tests.{first_failing, after}
 
 -- an entry that lodge let in, but for its digests
 pub record WellFormed (a : Entry) : Type 0 where
@@ -61,8 +61,8 @@ read_accepted : (r : List ℕ) (p : Parameters) → reads_record r ≡ Ok p →
 read_accepted r p e =
     let one = after_ok (reads_header r) _ p e in
     let heads = accepted (header_tests r) (parameters_of r) one.0 one.1 in
-    let rest = subst (λ y. first_of (length-test (length r) (record_length y) ∷ []) y ≡ Ok p) (sym heads.1) one.2 in
-    let last = accepted (length-test (length r) (record_length (parameters_of r)) ∷ []) (parameters_of r) p rest in
+    let rest = subst (λ y. first_failing (length_test (length r) (record_length y) ∷ []) y ≡ Ok p) (sym heads.1) one.2 in
+    let last = accepted (length_test (length r) (record_length (parameters_of r)) ∷ []) (parameters_of r) p rest in
     (heads.0, not-false (eqb (length r) (record_length (parameters_of r))) last.0.0, last.1)
 
 module _ (F X : Digest) (G1 : First) (G2 : Second) (s : State) (r : List ℕ) (work k : ℕ) where
@@ -99,9 +99,9 @@ module _ (F X : Digest) (G1 : First) (G2 : Second) (s : State) (r : List ℕ) (w
   lodge_ok p =
       let one = after_ok (reads_record r) _ k p in
       let heads = read_accepted r one.0 one.1 in
-      let next = subst (λ y. after (first_of (room_tests s y work) (tt {0})) (λ _. after (first_of (body_tests r y) (tt {0})) (λ _. first_of (digest_tests F X a) s.count)) ≡ Ok k) (sym heads.2) one.2 in
-      let two = after_ok (first_of (room_tests s x work) (tt {0})) _ k next in
-      let three = after_ok (first_of (body_tests r x) (tt {0})) _ k two.2 in
+      let next = subst (λ y. after (first_failing (room_tests s y work) (tt {0})) (λ _. after (first_failing (body_tests r y) (tt {0})) (λ _. first_failing (digest_tests F X a) s.count)) ≡ Ok k) (sym heads.2) one.2 in
+      let two = after_ok (first_failing (room_tests s x work) (tt {0})) _ k next in
+      let three = after_ok (first_failing (body_tests r x) (tt {0})) _ k two.2 in
       from_tests heads.0 heads.1
       (accepted (room_tests s x work) (tt {0}) two.0 two.1).0
       (accepted (body_tests r x) (tt {0}) three.0 three.1).0

@@ -5,7 +5,7 @@ use Rattle.std.proofs.ByRecursion.{All-get_or, All-from_get_or, All-append}
 use Rattle.std.proofs.lemmas.List.FromFn.{get_or-map-range_with_len, length-map-range_with_len, length-range_with_len, get_or-range_with_len}
 use Rattle.std.proofs.lemmas.Bool.{cases_Bool, cond-true, cond-false}
 use Rattle.protocol.specs.declared.fault.Fault.{Fault}
-use Rattle.protocol.specs.Tests.{Test, first_of, after}
+use Rattle.protocol.specs.Tests.{Test, first_failing, after}
 
 -- no test of a list fails
 abbrev pub Passes : List Test → Type 0
@@ -15,15 +15,15 @@ step : {X : Type 0} (b : Bool) (e : Fault) (r : Result X Fault) (y : X) → cond
 step true e r y p = let z : ◌≡◌ {A = ℕ} 0 1 = cc in (absurd (omega arith), absurd (omega arith))
 step false e r y p = (refl, p)
 
-pub accepted : {X : Type 0} (ts : List Test) (x y : X) → first_of ts x ≡ Ok y → Passes ts × (x ≡ y)
+pub accepted : {X : Type 0} (ts : List Test) (x y : X) → first_failing ts x ≡ Ok y → Passes ts × (x ≡ y)
 accepted [] x y p = (tt, cc)
 accepted (t ∷ ts) x y p =
-    let s = step t.fails t.fault (first_of ts x) y p in
+    let s = step t.fails t.fault (first_failing ts x) y p in
     let r = accepted ts x y s.1 in ((s.0, r.0), r.1)
 
-pub passed : {X : Type 0} (ts : List Test) (x : X) → Passes ts → first_of ts x ≡ Ok x
+pub passed : {X : Type 0} (ts : List Test) (x : X) → Passes ts → first_failing ts x ≡ Ok x
 passed [] x p = refl
-passed (t ∷ ts) x (p, ps) = ap (λ b. cond b (Err t.fault) (first_of ts x)) p ∙ passed ts x ps
+passed (t ∷ ts) x (p, ps) = ap (λ b. cond b (Err t.fault) (first_failing ts x)) p ∙ passed ts x ps
 
 pub after_ok : {X Y : Type 0} (r : Result X Fault) (next : X → Result Y Fault) (y : Y) → after r next ≡ Ok y → (x : X) × (r ≡ Ok x) × (next x ≡ Ok y)
 after_ok (Ok x) next y p = (x, refl, p)
@@ -68,11 +68,11 @@ append_passes xs ys p q = All-append (λ t. t.fails ≡ false) xs ys p q
 
 -- for code that makes one test after another
 
-pub first_past : {X : Type 0} (xs ys : List Test) (v : X) → Passes xs → first_of (xs ++ ys) v ≡ first_of ys v
+pub first_past : {X : Type 0} (xs ys : List Test) (v : X) → Passes xs → first_failing (xs ++ ys) v ≡ first_failing ys v
 first_past [] ys v p = refl
-first_past (t ∷ xs) ys v (p, ps) = ap (λ b. cond b (Err t.fault) (first_of (xs ++ ys) v)) p ∙ first_past xs ys v ps
+first_past (t ∷ xs) ys v (p, ps) = ap (λ b. cond b (Err t.fault) (first_failing (xs ++ ys) v)) p ∙ first_past xs ys v ps
 
-pub first_stops : {X Y : Type 0} (xs ys : List Test) (u : X) (v : Y) (e : Fault) → first_of xs u ≡ Err e → first_of (xs ++ ys) v ≡ Err e
+pub first_stops : {X Y : Type 0} (xs ys : List Test) (u : X) (v : Y) (e : Fault) → first_failing xs u ≡ Err e → first_failing (xs ++ ys) v ≡ Err e
 first_stops [] ys u v e p = let z : ◌≡◌ {A = ℕ} 0 1 = cc in absurd (omega arith)
 first_stops (t ∷ xs) ys u v e p =
     elim (cases_Bool t.fails) [
@@ -85,10 +85,10 @@ first_stops (t ∷ xs) ys u v e p =
 
 -- test i is the first that fails
 pub first_fails : {X : Type 0} (f : ℕ → Test) (n i : ℕ) (v : X) → i < n → ((k : ℕ) → k < i → (f k).fails ≡ false) → (f i).fails ≡ true →
-    first_of (map f (range_with_len 0 n)) v ≡ Err (f i).fault
+    first_failing (map f (range_with_len 0 n)) v ≡ Err (f i).fault
 first_fails f n i v h before here = go n i 0 h (λ k l q. subst (λ z. (f z).fails ≡ false) (let z : k ≡ 0 + k = omega arith in z) (before k q)) (subst (λ z. (f z).fails ≡ true) (let z : i ≡ 0 + i = omega arith in z) here) ∙ ap (λ z. Err (f z).fault) (let z : 0 + i ≡ i = omega arith in z)
   where
-    go : (n i at : ℕ) → i < n → ((k l : ℕ) → k < i → (f (at + k)).fails ≡ false) → (f (at + i)).fails ≡ true → first_of (map f (range_with_len at n)) v ≡ Err (f (at + i)).fault
+    go : (n i at : ℕ) → i < n → ((k l : ℕ) → k < i → (f (at + k)).fails ≡ false) → (f (at + i)).fails ≡ true → first_failing (map f (range_with_len at n)) v ≡ Err (f (at + i)).fault
     go zero i at h b q = absurd (omega arith)
     go (suc n) zero at h b q = cond-true _ _ _ (subst (λ z. (f z).fails ≡ true) (let z : at + 0 ≡ at = omega arith in z) q) ∙ ap (λ z. Err (f z).fault) (let z : at ≡ at + 0 = omega arith in z)
     go (suc n) (suc i) at h b q =
@@ -98,14 +98,14 @@ first_fails f n i v h before here = go n i 0 h (λ k l q. subst (λ z. (f z).fai
         ∙ ap (λ z. Err (f z).fault) (let z : at + 1 + i ≡ at + suc i = omega arith in z)
 
 -- the tests of part d are the first with one that fails
-pub first_of_joined : {X Y : Type 0} (f : ℕ → List Test) (n d : ℕ) (u : X) (v : Y) (e : Fault) → d < n → ((k : ℕ) → k < d → Passes (f k)) → first_of (f d) u ≡ Err e →
-    first_of (flat_map f (range_with_len 0 n)) v ≡ Err e
-first_of_joined f n d u v e h before here = go n d 0 h (λ k q. subst (λ z. Passes (f z)) (let z : k ≡ 0 + k = omega arith in z) (before k q)) (subst (λ z. first_of (f z) u ≡ Err e) (let z : d ≡ 0 + d = omega arith in z) here)
+pub first_failing_joined : {X Y : Type 0} (f : ℕ → List Test) (n d : ℕ) (u : X) (v : Y) (e : Fault) → d < n → ((k : ℕ) → k < d → Passes (f k)) → first_failing (f d) u ≡ Err e →
+    first_failing (flat_map f (range_with_len 0 n)) v ≡ Err e
+first_failing_joined f n d u v e h before here = go n d 0 h (λ k q. subst (λ z. Passes (f z)) (let z : k ≡ 0 + k = omega arith in z) (before k q)) (subst (λ z. first_failing (f z) u ≡ Err e) (let z : d ≡ 0 + d = omega arith in z) here)
   where
-    go : (n d at : ℕ) → d < n → ((k : ℕ) → k < d → Passes (f (at + k))) → first_of (f (at + d)) u ≡ Err e → first_of (flat_map f (range_with_len at n)) v ≡ Err e
+    go : (n d at : ℕ) → d < n → ((k : ℕ) → k < d → Passes (f (at + k))) → first_failing (f (at + d)) u ≡ Err e → first_failing (flat_map f (range_with_len at n)) v ≡ Err e
     go zero d at h b q = absurd (omega arith)
-    go (suc n) zero at h b q = first_stops (f at) (flat_map f (range_with_len (at + 1) n)) u v e (subst (λ z. first_of (f z) u ≡ Err e) (let z : at + 0 ≡ at = omega arith in z) q)
+    go (suc n) zero at h b q = first_stops (f at) (flat_map f (range_with_len (at + 1) n)) u v e (subst (λ z. first_failing (f z) u ≡ Err e) (let z : at + 0 ≡ at = omega arith in z) q)
     go (suc n) (suc d) at h b q =
         first_past (f at) (flat_map f (range_with_len (at + 1) n)) v (subst (λ z. Passes (f z)) (let z : at + 0 ≡ at = omega arith in z) (b 0 (omega arith)))
         ∙ go n d (at + 1) (omega arith) (λ k r. subst (λ z. Passes (f z)) (let z : at + suc k ≡ at + 1 + k = omega arith in z) (b (suc k) (omega arith)))
-        (subst (λ z. first_of (f z) u ≡ Err e) (let z : at + suc d ≡ at + 1 + d = omega arith in z) q)
+        (subst (λ z. first_failing (f z) u ≡ Err e) (let z : at + suc d ≡ at + 1 + d = omega arith in z) q)

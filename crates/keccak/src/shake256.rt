@@ -1,5 +1,6 @@
 //! SHAKE256 as a digest maker.
-ghost use Rattle.std.specs.Prelude.{◌≡◌, ℕ, []};
+ghost use Rattle.std.specs.Prelude.{◌≡◌, ℕ, ◌&&◌, [], is_ok, nat_le, IfErr, IfOk};
+ghost use Rattle.digest.specs.Making.{limit};
 ghost use Rattle.keccak.specs.Sponge.{shake256};
 ghost use Rattle.keccak.specs.Meaning.{by_squeezing, still_to_come, meaning, Blank};
 ghost use Rattle.keccak.specs.Squeezed.{shake_byte};
@@ -12,6 +13,26 @@ use digest::maker::{DigestMaker, LIMIT};
 use protocol::fault::Fault;
 
 impl Shake256 {
+    /// A maker that counts so many bytes as taken and so many as drawn, and holds no text: for trying what a maker answers at its limits,
+    /// where real bytes would take minutes. It is refused past the limits.
+    pub fn with_counts(taken: u64, drawn: u64) -> Result<Shake256, Fault>
+        ensures answer { is_ok result ≡ (nat_le taken limit && nat_le drawn limit) }
+        ensures counts { IfOk result (λ m. ((meaning m).taken ≡ taken) × ((meaning m).drawn ≡ drawn)) }
+        ensures refusal { IfErr result (λ f. f ≡ Fault.PastLimit) }
+    {
+        if taken > LIMIT || drawn > LIMIT {
+            return Err(Fault::PastLimit);
+        }
+        Ok(Shake256 {
+            lanes: [0; 25],
+            block: [0; 136],
+            filled: 0,
+            used: 0,
+            taken,
+            drawn,
+        })
+    }
+
     // Zeros everywhere: nothing of a text stays.
     fn clear(&mut self)
         ensures { Blank self.new }
@@ -44,7 +65,7 @@ impl DigestMaker for Shake256 {
 
     ghost bytes = { shake_byte 136 };
 
-    ghost within = { first_of (Prim.search rules, Prim.grind (arith, Self.row.coded.inj)) };
+    ghost within = { Prim.first_of (Prim.search rules, Prim.grind (arith, Self.row.coded.inj)) };
 
     fn new() -> Self {
         Shake256 {

@@ -1,4 +1,4 @@
--- Inner products modulo q, and lines of A-as-S + E.
+-- Inner products modulo q, and lines of A·S + E.
 use Rattle.std.proofs.Common.{◌≡◌, ℕ, zero, suc, ◌+◌, ◌-◌, ◌*◌, ◌/◌, ◌%◌, ◌<◌, ◌≤◌, List, length, take, drop, set, sym, refl, ap, ◌∙◌, subst, inl, inr, le_refl, add-mul, one-mul, add-one, arith, below_more}
 use native.Mathlib.Nat.{mod-mod, mod-add-mod, add-mod-mod}
 use lib.Bits.{bit_and}

@@ -1,4 +1,4 @@
--- Numbers in memory: entries by index, S by columns, and one line of A-as-S + E.
+-- Numbers in memory: entries by index, S by columns, and one line of A·S + E.
 use Rattle.std.specs.Prelude.{◌≡◌, ℕ, ◌+◌, ◌*◌, ◌%◌, ◌<◌, List, slice_index}
 use Rattle.protocol.specs.Residues.{dot}
 

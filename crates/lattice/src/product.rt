@@ -1,4 +1,4 @@
-//! One row of A.S + E modulo q at a time. Every modulus divides 2^16, so that sums may wrap there and one mask at the end is exact.
+//! One row of A·S + E modulo q at a time. Every modulus divides 2^16, so that sums may wrap there and one mask at the end is exact.
 ghost use Rattle.std.specs.Prelude.{◌≡◌, ℕ, ◌+◌, ◌*◌, ◌%◌, ◌<◌, ◌≤◌, length};
 ghost use Rattle.protocol.specs.Parameters.{modulus};
 ghost use Rattle.protocol.specs.Residues.{dot};
@@ -32,7 +32,7 @@ pub fn turn(n: usize, c: usize, s: &[u16], columns: &mut [u16])
     }
 }
 
-/// Row i of A.S + E into its place in out, where `row` is row i of A; S stands by columns, E row by row.
+/// Row i of A·S + E into its place in out, where `row` is row i of A; S stands by columns, E row by row.
 pub fn multiply_row(
     set: Set,
     c: usize,

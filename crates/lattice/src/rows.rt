@@ -45,7 +45,7 @@ pub fn matrix_row(set: Set, i: u16, seed: &[u8; 16], row: &mut [u16])
     fill_row(set, i, seed, &mut bytes[0..used], row);
 }
 
-/// B = A.S + E modulo q, with one row of A held at a time, in `row`; S and then E fill `secrets` row by row, and `columns` has room
+/// B = A·S + E modulo q, with one row of A held at a time, in `row`; S and then E fill `secrets` row by row, and `columns` has room
 /// for S. A party's product share is the same of its shares.
 pub fn multiply(
     set: Set,

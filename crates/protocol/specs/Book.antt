@@ -16,7 +16,7 @@ use Rattle.protocol.specs.Parameters.{Parameters, width, modulus, bound, sigma, 
 use Rattle.protocol.specs.Sampling.{signed, beyond}
 use Rattle.protocol.specs.Sharing.{parts}
 use Rattle.protocol.specs.Streams.{Digest, First, Second, drawn}
-use Rattle.protocol.specs.Tests.{Test, first_of, after}
+use Rattle.protocol.specs.Tests.{Test, first_failing, after}
 
 -- the entries lie end to end at the front of the memory
 pub record State : Type 0 where
@@ -116,9 +116,9 @@ room_tests s p work =
 abbrev pub lodges : Digest → Digest → First → Second → State → List ℕ → ℕ → Result ℕ Fault
 lodges F X G1 G2 s r work =
     after (reads_record r) (λ p.
-    after (first_of (room_tests s p work) (tt {0})) (λ _.
-    after (first_of (body_tests r p) (tt {0})) (λ _.
-    first_of (digest_tests F X (chosen G1 G2 r)) s.count)))
+    after (first_failing (room_tests s p work) (tt {0})) (λ _.
+    after (first_failing (body_tests r p) (tt {0})) (λ _.
+    first_failing (digest_tests F X (chosen G1 G2 r)) s.count)))
 
 abbrev pub missing_test : State → ℕ → Test
 missing_test s k = record { fails = nat_le s.count k; fault = fault.Missing k }
@@ -126,8 +126,8 @@ missing_test s k = record { fails = nat_le s.count k; fault = fault.Missing k }
 -- read answers how many bytes it writes, which are `read_bytes` of the entry
 abbrev pub reads : State → ℕ → ℕ → Result ℕ Fault
 reads s k room =
-    after (first_of (missing_test s k ∷ []) (tt {0})) (λ _.
-    let long = length (read_bytes (slice_index_or (entries_of s) k no_entry)) in first_of (output_test room long ∷ []) long)
+    after (first_failing (missing_test s k ∷ []) (tt {0})) (λ _.
+    let long = length (read_bytes (slice_index_or (entries_of s) k no_entry)) in first_failing (output_test room long ∷ []) long)
 
 -- what recover answers, and the bytes that it writes
 pub record Recovered : Type 0 where
@@ -169,11 +169,11 @@ pair_tests a b e work room = let p = parameters_of a.bytes in
 
 abbrev pub recovers : Digest → Digest → State → ℕ → ℕ → ℕ → ℕ → ℕ → Result Recovered Fault
 recovers F X s i j e work room =
-    after (first_of (missing_test s i ∷ missing_test s j ∷ []) (tt {0})) (λ _.
+    after (first_failing (missing_test s i ∷ missing_test s j ∷ []) (tt {0})) (λ _.
     let a = get_or (entries_of s) i no_entry in let b = get_or (entries_of s) j no_entry in
-    after (first_of (pair_tests a b e work room) (tt {0})) (λ _.
-    after (first_of (digest_tests F X a) (tt {0})) (λ _.
-    first_of (digest_tests F X b) (compared F X a b e))))
+    after (first_failing (pair_tests a b e work room) (tt {0})) (λ _.
+    after (first_failing (digest_tests F X a) (tt {0})) (λ _.
+    first_failing (digest_tests F X b) (compared F X a b e))))
 
 -- what is known of every entry of a book, whatever its makers: all that lodge tests but the digests
 abbrev pub passes : List Test → Bool

@@ -6,7 +6,7 @@ use Rattle.protocol.specs.declared.fault.Fault.{Fault}
 use Rattle.protocol.specs.declared.fault.Fault.TheVariants.{Memory, Output, Rebuilt}
 use Rattle.protocol.specs.Entry.{setting_of}
 use Rattle.protocol.specs.Flags.{kept_index, audited_of}
-use Rattle.protocol.specs.Header.{parameters_of, checks_header, length-test}
+use Rattle.protocol.specs.Header.{parameters_of, checks_header, length_test}
 use Rattle.protocol.specs.Layout.{record_length}
 use Rattle.protocol.specs.Parameters.{Parameters, width, table, sigma, parties, work_words}
 use Rattle.protocol.specs.Prover.{Secret, offsets, key, honest6, honest7}
@@ -14,7 +14,7 @@ use Rattle.protocol.specs.Sampling.{sampled, byte_of}
 use Rattle.protocol.specs.Selection.{selected, hidden_parties}
 use Rattle.protocol.specs.Sharing.{parts}
 use Rattle.protocol.specs.Streams.{Digest, First, Second, drawn}
-use Rattle.protocol.specs.Tests.{Test, first_of, after}
+use Rattle.protocol.specs.Tests.{Test, first_failing, after}
 use Rattle.protocol.specs.Texts.{text1, text2}
 use Rattle.protocol.specs.Tree.{child, seed_at, siblings}
 
@@ -84,7 +84,7 @@ rebuilt_test anew keeps = record { fails = not (bytes_eq anew keeps); fault = Re
 abbrev pub commits : Digest → Digest → List ℕ → List ℕ → List ℕ → List ℕ → ℕ → Result Committed Fault
 commits F X header salt master attributes work =
     after (checks_header header) (λ p.
-    first_of (length-test (length attributes) p.a ∷ memory_test work (work_words p) ∷ [])
+    first_failing (length_test (length attributes) p.a ∷ memory_test work (work_words p) ∷ [])
     (record { header = header; salt = salt; master = master; d1 = drawn F (text_six F X header salt master attributes) (width p) }))
 
 module _ (F X : Digest) (G1 : First) (c : Committed) (attributes seed_a : List ℕ) where
@@ -104,7 +104,7 @@ module _ (F X : Digest) (G1 : First) (c : Committed) (attributes seed_a : List �
 
   abbrev pub key_tests : ℕ → ℕ → List Test
   key_tests work room = let p = parameters_of c.header in
-      length-test (length attributes) p.a
+      length_test (length attributes) p.a
       ∷ memory_test work (work_words p)
       ∷ output_test room (4 * (p.n * p.c))
       ∷ rebuilt_test (drawn F (text_six F X c.header c.salt c.master attributes) (width p)) c.d1
@@ -122,7 +122,7 @@ module _ (F X : Digest) (G1 : First) (c : Committed) (attributes seed_a : List �
 
   -- the ceremony that key gives
   abbrev pub keys : ℕ → ℕ → Result Keyed Fault
-  keys work room = first_of (key_tests work room) with_d2
+  keys work room = first_failing (key_tests work room) with_d2
 
 module _ (F X : Digest) (G1 : First) (G2 : Second) (k : Keyed) (attributes : List ℕ) where
   -- the ceremony as it was when it was committed
@@ -153,7 +153,7 @@ module _ (F X : Digest) (G1 : First) (G2 : Second) (k : Keyed) (attributes : Lis
 
   abbrev pub open_tests : ℕ → ℕ → List Test
   open_tests work room = let p = parameters_of k.header in
-      length-test (length attributes) p.a
+      length_test (length attributes) p.a
       ∷ memory_test work (work_words p)
       ∷ output_test room (record_length p)
       ∷ rebuilt_test (drawn F (text_six F X k.header k.salt k.master attributes) (width p)) k.d1
@@ -162,4 +162,4 @@ module _ (F X : Digest) (G1 : First) (G2 : Second) (k : Keyed) (attributes : Lis
 
   -- the length of what open writes
   abbrev pub opens : ℕ → ℕ → Result ℕ Fault
-  opens work room = first_of (open_tests work room) (record_length (parameters_of k.header))
+  opens work room = first_failing (open_tests work room) (record_length (parameters_of k.header))

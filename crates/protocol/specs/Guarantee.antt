@@ -71,7 +71,7 @@ pub record Opens (F X : Digest) (a : Entry) (e : ℕ) (seeds : ℕ → List ℕ)
   -- the audited ones are those of the record, and small
   pub audited : (k : ℕ) → k < (parameters_of a.bytes).m → slice_index a.flags k ≡ 0 → let p = parameters_of a.bytes in
       (values k ≡ residue (modulus p.set) (audited_value a k)) × Within (bound p.set) (audited_value a k)
-  -- the kept ones, in index order, fill S and then E row by row, and B = A-as-S + E mod q
+  -- the kept ones, in index order, fill S and then E row by row, and B = A·S + E mod q
   pub key : (i l : ℕ) → i < (parameters_of a.bytes).n → l < (parameters_of a.bytes).c →
       let p = parameters_of a.bytes in let q = modulus p.set in
       let A : ℕ → ℕ → ℕ = matrix X q (field_part p a.bytes SeedA) in

@@ -7,7 +7,7 @@ use Rattle.protocol.specs.declared.field.Field.TheVariants as field
 use Rattle.protocol.specs.Bytes.{word, le16}
 use Rattle.protocol.specs.Parameters.{Parameters, sigma}
 use Rattle.protocol.specs.Layout.{offset, record_length}
-use Rattle.protocol.specs.Tests.{Test, first_of, after}
+use Rattle.protocol.specs.Tests.{Test, first_failing, after}
 
 -- the numbers that stand in a header's fifteen bytes, or in those that a record begins with
 abbrev pub parameters_of : List ℕ → Parameters
@@ -54,23 +54,23 @@ limits p =
     ∷ []
 
 -- what is handed in must have the length that the header tells
-abbrev pub length-test : ℕ → ℕ → Test
-length-test long due = record { fails = not (long == due); fault = Length due }
+abbrev pub length_test : ℕ → ℕ → Test
+length_test long due = record { fails = not (long == due); fault = Length due }
 
 -- the tests of a bare header of fifteen bytes
 abbrev pub bare_tests : List ℕ → List Test
 bare_tests bytes = let p = parameters_of bytes in mark_test bytes ∷ version_test p ∷ limits p
 
 abbrev pub checks_header : List ℕ → Result Parameters Fault
-checks_header bytes = first_of (bare_tests bytes) (parameters_of bytes)
+checks_header bytes = first_failing (bare_tests bytes) (parameters_of bytes)
 
 -- the tests of the header at the front of any bytes
 abbrev pub header_tests : List ℕ → List Test
 header_tests bytes = short_test bytes ∷ bare_tests bytes
 
 abbrev pub reads_header : List ℕ → Result Parameters Fault
-reads_header bytes = first_of (header_tests bytes) (parameters_of bytes)
+reads_header bytes = first_failing (header_tests bytes) (parameters_of bytes)
 
 -- the header of a record, which has the length that its header tells
 abbrev pub reads_record : List ℕ → Result Parameters Fault
-reads_record bytes = after (reads_header bytes) (λ p. first_of (length-test (length bytes) (record_length p) ∷ []) p)
+reads_record bytes = after (reads_header bytes) (λ p. first_failing (length_test (length bytes) (record_length p) ∷ []) p)

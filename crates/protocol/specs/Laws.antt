@@ -10,7 +10,7 @@ use Rattle.protocol.specs.Rule.{Rule, LawfulRule}
 use Rattle.protocol.specs.Sampling.{sampled, Within}
 use Rattle.protocol.specs.Selection.{selected, hidden_parties}
 
--- A-as-S + E mod q is a lawful key rule, whatever the matrix
+-- A·S + E mod q is a lawful key rule, whatever the matrix
 abbrev pub MatrixRuleIsLawful : Type 0
 MatrixRuleIsLawful = (q n c : ℕ) (a : List ℕ → ℕ → ℕ → ℕ) → 0 < q → q ≤ 65536 → LawfulRule (matrix_rule q n c a)
 

@@ -1,4 +1,4 @@
--- Sixteen-bit entries modulo q, and the key rule B = A-as-S + E.
+-- Sixteen-bit entries modulo q, and the key rule B = A·S + E.
 use Rattle.std.specs.Prelude.{ℕ, zero, suc, ◌+◌, ◌-◌, ◌*◌, ◌/◌, ◌%◌, List, ◌++◌, ℤ, pos, negsuc}
 use Rattle.protocol.specs.Bytes.{le16}
 use Rattle.protocol.specs.Group.{Entries}
@@ -32,7 +32,7 @@ residue_in q s t = (s (2 * t) + 256 * s (2 * t + 1)) % q
 abbrev pub matrix : Digest → ℕ → List ℕ → ℕ → ℕ → ℕ
 matrix X q seed_a i = residue_in q (X (le16 i ++ seed_a))
 
--- entry m, row by row, of A-as-S + E modulo q: A is n by n, S and E are n by c and fill v one after the other, row by row
+-- entry m, row by row, of A·S + E modulo q: A is n by n, S and E are n by c and fill v one after the other, row by row
 abbrev pub product : ℕ → ℕ → ℕ → (ℕ → ℕ → ℕ) → (ℕ → ℕ) → ℕ → ℕ
 product q n c a v m = (dot n (a (m / c)) (λ t. v (t * c + m % c)) + v (n * c + m)) % q
 

@@ -8,9 +8,9 @@ pub record Test : Type 0 where
   pub fault : Fault
 
 -- the refusal of the first test that fails, or the answer where none does
-abbrev pub first_of : {X : Type 0} → List Test → X → Result X Fault
-first_of [] x = Ok x
-first_of (t ∷ ts) x = cond t.fails (Err t.fault) (first_of ts x)
+abbrev pub first_failing : {X : Type 0} → List Test → X → Result X Fault
+first_failing [] x = Ok x
+first_failing (t ∷ ts) x = cond t.fails (Err t.fault) (first_failing ts x)
 
 -- one stage after another, unless the first is refused
 abbrev pub after : {X Y : Type 0} → Result X Fault → (X → Result Y Fault) → Result Y Fault

@@ -13,7 +13,7 @@ use Rattle.protocol.specs.Layout.{offset, size}
 use Rattle.protocol.specs.Of.{parameters}
 use Rattle.protocol.specs.Parameters.{modulus, bound}
 use Rattle.protocol.specs.Sampling.{signed, beyond}
-use Rattle.protocol.specs.Tests.{Test, first_of}
+use Rattle.protocol.specs.Tests.{Test, first_failing}
 use Rattle.record.specs.declared.view.Part.{Part}
 use Rattle.record.specs.declared.view.Record.{Record}
 use Rattle.record.specs.Parts.{Lies}
@@ -45,7 +45,7 @@ audited_of r at n b h =
     ∙ same_tests _ _ n (λ k l. ap (λ v. record { fails = beyond b (signed v); fault = Audited (at + k) }) (get_d_part r at n k l))
 
 -- a loop over tests that ended
-pub none_fails : (f : ℕ → Test) (n i : ℕ) → n ≤ i → ((k : ℕ) → k < i → (f k).fails ≡ false) → first_of (map f (range_with_len 0 n)) (tt {0}) ≡ Ok (tt {0})
+pub none_fails : (f : ℕ → Test) (n i : ℕ) → n ≤ i → ((k : ℕ) → k < i → (f k).fails ≡ false) → first_failing (map f (range_with_len 0 n)) (tt {0}) ≡ Ok (tt {0})
 none_fails f n i h before = passed _ (tt {0}) (all_tests f n (λ k q. before k (omega arith)))
 
 -- what `in_range` says of a byte
@@ -68,13 +68,13 @@ lies_in p view bytes h f over with-header l =
 
 module _ (answer : Result (Unit {0}) Fault) (p : Part) (bytes : List ℕ) (at n : ℕ) where
   pub residues_say : (q s : ℕ) → Lies p bytes at (2 * n) → at + 2 * n ≤ length bytes → q ≡ modulus s →
-      answer ≡ first_of (residue_tests p.bytes.now p.offset q) (tt {0}) →
-      answer ≡ first_of (map (λ i. book.residue_test bytes (modulus s) (at + 2 * i)) (range_with_len 0 n)) (tt {0})
+      answer ≡ first_failing (residue_tests p.bytes.now p.offset q) (tt {0}) →
+      answer ≡ first_failing (map (λ i. book.residue_test bytes (modulus s) (at + 2 * i)) (range_with_len 0 n)) (tt {0})
   residues_say q s l within is says =
-      says ∙ (λ i. first_of (residue_tests (l.holds i) (l.begins i) (is i)) (tt {0})) ∙ ap (λ ts. first_of ts (tt {0})) (residues_of bytes at n (modulus s) within)
+      says ∙ (λ i. first_failing (residue_tests (l.holds i) (l.begins i) (is i)) (tt {0})) ∙ ap (λ ts. first_failing ts (tt {0})) (residues_of bytes at n (modulus s) within)
 
   pub audited_say : (b s : ℕ) → Lies p bytes at n → at + n ≤ length bytes → b ≡ bound s →
-      answer ≡ first_of (audited_tests p.bytes.now p.offset b) (tt {0}) →
-      answer ≡ first_of (map (λ i. book.audited_test bytes (bound s) (at + i)) (range_with_len 0 n)) (tt {0})
+      answer ≡ first_failing (audited_tests p.bytes.now p.offset b) (tt {0}) →
+      answer ≡ first_failing (map (λ i. book.audited_test bytes (bound s) (at + i)) (range_with_len 0 n)) (tt {0})
   audited_say b s l within is says =
-      says ∙ (λ i. first_of (audited_tests (l.holds i) (l.begins i) (is i)) (tt {0})) ∙ ap (λ ts. first_of ts (tt {0})) (audited_of bytes at n (bound s) within)
+      says ∙ (λ i. first_failing (audited_tests (l.holds i) (l.begins i) (is i)) (tt {0})) ∙ ap (λ ts. first_failing ts (tt {0})) (audited_of bytes at n (bound s) within)

@@ -1,7 +1,7 @@
 //! The tests of one field of a record, by its part.
 ghost use Rattle.std.specs.Prelude.{◌≡◌, ◌+◌, ◌^◌, ◌<◌, length};
 ghost use Rattle.protocol.specs.Parameters.{bound};
-ghost use Rattle.protocol.specs.Tests.{first_of};
+ghost use Rattle.protocol.specs.Tests.{first_failing};
 ghost use Rattle.lattice.specs.Sets.{number};
 ghost use Rattle.ranges.specs.Parts.{residue_tests, audited_tests};
 
@@ -13,7 +13,7 @@ use record::view::Part;
 /// Tests that the two-byte entries of a part are below q.
 pub(crate) fn test_residues(part: Part, q: u32) -> Result<(), Fault>
     requires { part.offset + length part.bytes.now < 2 ^ 64 }
-    ensures { result ≡ first_of (residue_tests part.entry.bytes.now part.entry.offset q) tt }
+    ensures { result ≡ first_failing (residue_tests part.entry.bytes.now part.entry.offset q) tt }
 {
     for i in 0..part.bytes.len() / 2 {
         let entry = u16::from_le_bytes([part.bytes[2 * i], part.bytes[2 * i + 1]]);
@@ -29,7 +29,7 @@ pub(crate) fn test_residues(part: Part, q: u32) -> Result<(), Fault>
 /// Tests that the values of a part, one byte each, lie within the bound of a set.
 pub(crate) fn test_audited(part: Part, set: Set) -> Result<(), Fault>
     requires { part.offset + length part.bytes.now < 2 ^ 64 }
-    ensures { result ≡ first_of (audited_tests part.entry.bytes.now part.entry.offset (bound (number set))) tt }
+    ensures { result ≡ first_failing (audited_tests part.entry.bytes.now part.entry.offset (bound (number set))) tt }
 {
     for i in 0..part.bytes.len() {
         if !in_range(set, from_byte(part.bytes[i])) {

@@ -1,7 +1,7 @@
 //! The header's tests, in their order.
 ghost use Rattle.std.specs.Prelude.{◌≡◌, ◌+◌, ◌<◌, ◌≤◌, ◌||◌, [], ◌∷◌, length, take, IfOk, OnOk, nat_lt, slice_index};
 ghost use Rattle.protocol.specs.Bytes.{word};
-ghost use Rattle.protocol.specs.Tests.{first_of};
+ghost use Rattle.protocol.specs.Tests.{first_failing};
 ghost use Rattle.protocol.specs.Layout.{record_length};
 ghost use Rattle.protocol.specs.Header.{parameters_of, header_bytes, mark_test, version_test, checks_header, reads_header, reads_record};
 ghost use Rattle.protocol.specs.Of.{parameters, read_as};
@@ -23,7 +23,7 @@ fn word(bytes: &[u8], at: usize) -> u16
 /// Tests mark and version.
 fn test_kind(bytes: &[u8]) -> Result<(), Fault>
     requires { 15 ≤ length bytes.now }
-    ensures says { result ≡ first_of (mark_test bytes.now ∷ version_test (parameters_of bytes.now) ∷ []) tt }
+    ensures says { result ≡ first_failing (mark_test bytes.now ∷ version_test (parameters_of bytes.now) ∷ []) tt }
     ensures known { OnOk result ((slice_index bytes.now 0 ≡ 75) × (slice_index bytes.now 1 ≡ 80) × (slice_index bytes.now 2 ≡ 80) × (word bytes.now 3 ≡ 1)) }
 {
     if bytes[0] != b'K' || bytes[1] != b'P' || bytes[2] != b'P' {
@@ -37,7 +37,7 @@ fn test_kind(bytes: &[u8]) -> Result<(), Fault>
 
 /// Tests that the field at an offset lies from low to high.
 fn test_limit(offset: usize, value: usize, low: usize, high: usize) -> Result<(), Fault>
-    ensures says { result ≡ first_of (record { fails = nat_lt value low || nat_lt high value; fault = Fault.Limit offset } ∷ []) tt }
+    ensures says { result ≡ first_failing (record { fails = nat_lt value low || nat_lt high value; fault = Fault.Limit offset } ∷ []) tt }
     ensures within { OnOk result ((low ≤ value) × (value ≤ high)) }
 {
     if value < low || high < value {

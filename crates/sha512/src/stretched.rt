@@ -1,5 +1,6 @@
 //! The digest maker that stretches SHA-512 to a stream.
-ghost use Rattle.std.specs.Prelude.{◌≡◌, ℕ, ◌+◌, ◌-◌, ◌/◌, ◌%◌, ◌<◌, ◌≤◌, [], length, replicate, slice_index};
+ghost use Rattle.std.specs.Prelude.{◌≡◌, ℕ, ◌+◌, ◌-◌, ◌/◌, ◌%◌, ◌<◌, ◌≤◌, ◌&&◌, [], length, replicate, slice_index, is_ok, nat_le, IfErr, IfOk};
+ghost use Rattle.digest.specs.Making.{limit};
 ghost use Rattle.protocol.specs.Streams.{first_bytes};
 ghost use Rattle.sha512.specs.Sha512.{initial};
 ghost use Rattle.sha512.specs.Stretched.{stretched};
@@ -47,6 +48,26 @@ fn copy_part(out: &mut [u8], at: usize, part: &[u8])
 }
 
 impl Stretched {
+    /// A maker that counts so many bytes as taken and so many as drawn, and holds no text: for trying what a maker answers at its limits,
+    /// where real bytes would take minutes. It is refused past the limits.
+    pub fn with_counts(taken: u64, drawn: u64) -> Result<Stretched, Fault>
+        ensures answer { is_ok result ≡ (nat_le taken limit && nat_le drawn limit) }
+        ensures counts { IfOk result (λ m. (m.hasher.total ≡ taken) × (m.drawn ≡ drawn)) }
+        ensures refusal { IfErr result (λ f. f ≡ Fault.PastLimit) }
+    {
+        if taken > LIMIT || drawn > LIMIT {
+            return Err(Fault::PastLimit);
+        }
+        let mut hasher = Hasher::new();
+        hasher.total = taken;
+        let block = stream_block(&hasher, (drawn / 64) as u32);
+        Ok(Stretched {
+            hasher,
+            drawn,
+            block,
+        })
+    }
+
     /// Forgets the text: nothing of it is left in any field.
     fn clear(&mut self)
         ensures words { self.new.hasher.words ≡ initial }
@@ -112,7 +133,7 @@ impl DigestMaker for Stretched {
 
     ghost bytes = { stretched_bytes };
 
-    ghost within = { first_of (Prim.search rules, Prim.grind (arith, Self.row.coded.inj)) };
+    ghost within = { Prim.first_of (Prim.search rules, Prim.grind (arith, Self.row.coded.inj)) };
 
     fn new() -> Self {
         Stretched {

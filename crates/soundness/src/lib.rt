@@ -15,7 +15,7 @@ pub fn kept_values_are_listed()
     ensures { KeptValuesListed }
 {}
 
-/// A.S + E is a lawful key rule: the image of a sum is the sum of the images.
+/// A·S + E is a lawful key rule: the image of a sum is the sum of the images.
 pub fn matrix_rule_is_lawful()
     ensures { MatrixRuleIsLawful }
 {}

@@ -1,8 +1,8 @@
 use Rattle.std.proofs.Common.{◌≡◌, ℕ, ◌<◌, Ok}
 use Rattle.protocol.specs.Book.{offset_range_tests}
 use Rattle.protocol.specs.Of.{parameters}
-use Rattle.protocol.specs.Tests.{first_of}
+use Rattle.protocol.specs.Tests.{first_failing}
 use Rattle.ranges.proofs.body.test_offsets.Given as goal
 
 abbrev pub invariant-loop-e : goal.invariant-loop-e
-invariant-loop-e l = (d : ℕ) → d < l.e → first_of (offset_range_tests l.bytes (parameters l.header) d) (tt {0}) ≡ Ok (tt {0})
+invariant-loop-e l = (d : ℕ) → d < l.e → first_failing (offset_range_tests l.bytes (parameters l.header) d) (tt {0}) ≡ Ok (tt {0})
