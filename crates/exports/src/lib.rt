@@ -1,4 +1,4 @@
-//! The digests, and a row of a product, as C functions, for benchmarks and tests from other languages.
+//! The digests, and a row of a product, in the form in which the crate `exports_c` exports them to C.
 #![tactic(auto)]
 
 pub mod product;
@@ -15,8 +15,7 @@ use keccak::shake256::Shake256;
 use sha512::stretched::Stretched;
 
 /// Fills the buffer with the front of SHAKE256 of the text; false, and the buffer as it was, where one of them is past the limit.
-#[unsafe(no_mangle)]
-pub extern "C" fn zaghmikhe_shake256(text: &[u8], out: &mut [u8]) -> bool
+pub fn zaghmikhe_shake256(text: &[u8], out: &mut [u8]) -> bool
     ensures answer { result ≡ is_ok (digests (length text.now) (length out.old)) }
     ensures out { MatchBool result (out.new ≡ drawn shake256 text.now (length out.old)) (out.new ≡ out.old) }
 {
@@ -25,8 +24,7 @@ pub extern "C" fn zaghmikhe_shake256(text: &[u8], out: &mut [u8]) -> bool
 }
 
 /// The same by stretched SHA-512.
-#[unsafe(no_mangle)]
-pub extern "C" fn zaghmikhe_sha512(text: &[u8], out: &mut [u8]) -> bool
+pub fn zaghmikhe_sha512(text: &[u8], out: &mut [u8]) -> bool
     ensures answer { result ≡ is_ok (digests (length text.now) (length out.old)) }
     ensures out { MatchBool result (out.new ≡ drawn stretched text.now (length out.old)) (out.new ≡ out.old) }
 {

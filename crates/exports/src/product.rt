@@ -1,4 +1,4 @@
-//! One row of A·S + E as a C function.
+//! One row of A·S + E.
 ghost use Rattle.std.specs.Prelude.{◌≡◌, ℕ, ◌<◌, length, MatchBool};
 ghost use Rattle.lattice.specs.Lines.{at, row_entry};
 ghost use Rattle.exports.specs.Sizes.{fits};
@@ -17,13 +17,7 @@ fn fits(row: &[u16], columns: &[u16], errors: &[u16], out: &[u16]) -> bool
 
 /// A row of A·S + E mod 32768, of the row of A, S by columns and the row of E; false, and the buffer as it was, where the sizes do not
 /// go together or are past those of a header.
-#[unsafe(no_mangle)]
-pub extern "C" fn zaghmikhe_multiply_row(
-    row: &[u16],
-    columns: &[u16],
-    errors: &[u16],
-    out: &mut [u16],
-) -> bool
+pub fn zaghmikhe_multiply_row(row: &[u16], columns: &[u16], errors: &[u16], out: &mut [u16]) -> bool
     ensures answer { result ≡ fits row.now columns.now errors.now out.old }
     ensures out { MatchBool result ((l : ℕ) → l < length out.old → at out.new l ≡ row_entry 32768 (length row.now) row.now columns.now (at errors.now l) l) (out.new ≡ out.old) }
 {
