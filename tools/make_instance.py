@@ -103,7 +103,7 @@ def main():
     put("the_recovered", seeds_and_values, "four leaf seeds of repetition 0, and eleven values")
 
     def differing(label, attributes, seedA):
-        """A record of other attributes or another seed_a under the same digests, and where recover says that the texts differ."""
+        """A record of other attributes or another seedA under the same digests, and where recover says that the texts differ."""
         q, _ = prover(attributes, seedA)
         assert (q.d1, q.d2) == (p.d1, p.d2)
         r = q.open(second(1))

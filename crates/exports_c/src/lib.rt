@@ -1,4 +1,5 @@
-//! The digests, and a row of the product, as C functions: those of the crate `exports`, under their names as symbols of a static library.
+//! The digests, and a row of the product, as C functions, for benchmarks and tests from other languages: those of the crate `exports`,
+//! under their names as symbols of a static library.
 #![tactic(auto)]
 
 ghost use Rattle.std.specs.Prelude.{◌≡◌, ℕ, ◌<◌, length, is_ok, MatchBool};

@@ -1,4 +1,4 @@
-//! The whole texts 6 and 7, digested: by a holder of salt and master, and by a checker of a record.
+//! The whole texts 6 and 7, digested by a holder of salt and master.
 #![tactic(auto)]
 
 pub mod fronts;
