@@ -1,5 +1,5 @@
 //! SHAKE256 as a digest maker.
-ghost use Rattle.std.specs.Prelude.{◌≡◌, ℕ, ◌&&◌, [], is_ok, nat_le, IfErr, IfOk};
+ghost use Rattle.std.specs.Prelude.{◌≡◌, ℕ, ◌&&◌, [], replicate, is_ok, nat_le, IfErr, IfOk};
 ghost use Rattle.digest.specs.Making.{limit};
 ghost use Rattle.keccak.specs.Sponge.{shake256};
 ghost use Rattle.keccak.specs.Meaning.{by_squeezing, still_to_come, meaning, Blank};
@@ -13,12 +13,13 @@ use digest::maker::{DigestMaker, LIMIT};
 use protocol::fault::Fault;
 
 impl Shake256 {
-    /// A maker that counts so many bytes as taken and so many as drawn, without having taken or given any: for trying what a maker answers
-    /// at its limits, where real bytes would take minutes. Nothing is said of the bytes that it gives until it is begun. It is refused past
-    /// the limits.
+    /// A maker that counts so many bytes as taken and so many as drawn, and is a new one but for that: for trying what a maker answers at
+    /// its limits, where real bytes would take minutes. Until it is begun, what it gives is of no text that it took. It is refused past the
+    /// limits.
     pub fn with_counts(taken: u64, drawn: u64) -> Result<Shake256, Fault>
         ensures answer { is_ok result ≡ (nat_le taken limit && nat_le drawn limit) }
         ensures counts { IfOk result (λ m. ((meaning m).taken ≡ taken) × ((meaning m).drawn ≡ drawn)) }
+        ensures new { IfOk result (λ m. (m.lanes ≡ replicate 25 0) × (m.block ≡ replicate 136 0) × (m.filled ≡ 0) × (m.used ≡ 0)) }
         ensures refusal { IfErr result (λ f. f ≡ Fault.PastLimit) }
     {
         if taken > LIMIT || drawn > LIMIT {

@@ -48,12 +48,13 @@ fn copy_part(out: &mut [u8], at: usize, part: &[u8])
 }
 
 impl Stretched {
-    /// A maker that counts so many bytes as taken and so many as drawn, without having taken or given any: for trying what a maker answers
-    /// at its limits, where real bytes would take minutes. Nothing is said of the bytes that it gives until it is begun. It is refused past
-    /// the limits.
+    /// A maker that counts so many bytes as taken and so many as drawn, and is a new one but for that: for trying what a maker answers at
+    /// its limits, where real bytes would take minutes. Until it is begun, what it gives is of no text that it took. It is refused past the
+    /// limits.
     pub fn with_counts(taken: u64, drawn: u64) -> Result<Stretched, Fault>
         ensures answer { is_ok result ≡ (nat_le taken limit && nat_le drawn limit) }
         ensures counts { IfOk result (λ m. (m.hasher.total ≡ taken) × (m.drawn ≡ drawn)) }
+        ensures new { IfOk result (λ m. (m.hasher.words ≡ initial) × (m.hasher.block ≡ replicate 128 0) × (m.block ≡ stream_block m.hasher [] (drawn / 64))) }
         ensures refusal { IfErr result (λ f. f ≡ Fault.PastLimit) }
     {
         if taken > LIMIT || drawn > LIMIT {
