@@ -5,10 +5,10 @@ use Rattle.std.proofs.lemmas.List.{append_assoc, append-nil, length-append, take
 use Rattle.std.proofs.lemmas.Bool.{le-ltb, lt-ltb, ltb-true, ltb-false}
 use Rattle.protocol.specs.declared.fault.Fault.{Fault}
 use Rattle.protocol.specs.declared.fault.Fault.TheVariants.{Turn, PastLimit}
-use Rattle.protocol.specs.Streams.{Digest, first_bytes}
+use Rattle.protocol.specs.Streams.{Digest}
 use Rattle.protocol.specs.Tests.{first_failing}
-use Rattle.digest.specs.Parts.{text_of, digests}
-use Rattle.digest.specs.Making.{Making, limit, takes, draws, limit_test, Took, Drew, Holding}
+use Rattle.digest.specs.Parts.{text_of}
+use Rattle.digest.specs.Making.{Making, limit, takes, limit_test, Took, Holding}
 
 module _ {F : Digest} {text : List ℕ} {m : Making} (h : Holding F text m) where
   pub holding_more : {y : List ℕ} {m' : Making} → Took y m m' → Holding F (text ++ y) m'
@@ -25,12 +25,6 @@ module _ {F : Digest} {text : List ℕ} {m : Making} (h : Holding F text m) wher
   -- a take is refused only past the limit
   pub holding_takes : (n : ℕ) → takes m n ≡ first_failing (limit_test (length text + n) ∷ []) (tt {0})
   holding_takes n = λ i. cond (ltb 0 (h.drawn i)) (Err Turn) (cond (ltb limit (h.taken i + n)) (Err PastLimit) (Ok (tt {0})))
-
-  pub holding_draws : (n : ℕ) → draws m n ≡ first_failing (limit_test n ∷ []) (tt {0})
-  holding_draws n = λ i. cond (ltb limit (zero_add n h.drawn i)) (Err PastLimit) (Ok (tt {0}))
-    where
-      zero_add : (n : ℕ) {d : ℕ} → d ≡ 0 → d + n ≡ n
-      zero_add n e = omega arith
 
 -- a take that the limit allows, on a maker that holds a text: it is not refused, and the maker then holds more
 pub taken_ok : (r : Result (Unit {0}) Fault) {F : Digest} {text : List ℕ} {m : Making} (m' : Making) (y : List ℕ)
@@ -84,14 +78,6 @@ accepted_within {F} {text} {m} n h e = under (ltb limit (length text + n)) refl 
         let z : ◌≡◌ {A = ℕ} 0 1 = cc in absurd (omega arith)
     under false t a = ltb-false limit (length text + n) t
 
--- the first draw on a text: refused past the limit alone, or the front of the stream
-pub first_draw : {F : Digest} {text : List ℕ} {m : Making} (m' : Making) (r : Result (Unit {0}) Fault) (old out : List ℕ) → Holding F text m → length out ≡ length old →
-    r ≡ draws m (length old) → MatchResult r (λ _. Drew out m m') (λ _. (out ≡ old) × (m' ≡ m)) →
-    (r ≡ first_failing (limit_test (length old) ∷ []) (tt {0})) × MatchResult r (λ _. out ≡ first_bytes (F text) (length old)) (λ _. out ≡ old)
-first_draw {F} {text} {m} m' (Ok u) old out h long a k =
-    (a ∙ holding_draws h (length old), k.bytes ∙ (λ i. first_bytes (holding_stream h i) (long i)))
-first_draw m' (Err f) old out h long a k = (a ∙ holding_draws h (length old), k.0)
-
 -- one part more
 pub one_more : (parts : List (Bor (List ℕ))) (i : ℕ) (d : Bor (List ℕ)) {F : Digest} {m m' : Making} → i < length parts →
     Holding F (text_of (take i parts)) m → Ok (tt {0}) ≡ takes m (length (get_or parts i d).now) → Took (get_or parts i d).now m m' →
@@ -120,18 +106,3 @@ all_taken parts i {F} {m} end h le =
       sym (ap (λ b. cond b (Err PastLimit) (Ok (tt {0}))) (le-ltb limit (length (text_of parts)) (subst (λ p. length (text_of p) ≤ limit) all le))),
       subst (λ p. Holding F (text_of p) m) all h,
     )
-
--- the text's test before the output's
-pub then_drawn : (t n : ℕ) (r : Result (Unit {0}) Fault) → Ok (tt {0}) ≡ first_failing (limit_test t ∷ []) (tt {0}) → r ≡ first_failing (limit_test n ∷ []) (tt {0}) → r ≡ digests t n
-then_drawn t n r a b = go (ltb limit t) a
-  where
-    go : (u : Bool) → Ok (tt {0}) ≡ cond u (Err PastLimit) (Ok (tt {0})) → r ≡ cond u (Err PastLimit) (first_failing (limit_test n ∷ []) (tt {0}))
-    go true e = let z : ◌≡◌ {A = ℕ} 0 1 = cc in absurd (omega arith)
-    go false e = b
-
-pub then_refused : (t n : ℕ) (f : Fault) → Err f ≡ first_failing (limit_test t ∷ []) (tt {0}) → Err f ≡ digests t n
-then_refused t n f a = go (ltb limit t) a
-  where
-    go : (u : Bool) → Err f ≡ cond u (Err PastLimit) (Ok (tt {0})) → Err f ≡ cond u (Err PastLimit) (first_failing (limit_test n ∷ []) (tt {0}))
-    go true e = e
-    go false e = let z : ◌≡◌ {A = ℕ} 0 1 = cc in absurd (omega arith)

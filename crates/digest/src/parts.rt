@@ -20,13 +20,23 @@ pub fn digest_parts<D: DigestMaker>(
     ensures begun { Holding D.DigestMaker.function [] (D.DigestMaker.means maker.new) }
 {
     maker.begin();
-    if let Err(fault) = take_parts(maker, parts) {
-        maker.begin();
-        return Err(fault);
-    }
-    let drawn = maker.draw(out);
+    let answer = take_and_draw(maker, parts, out);
     maker.begin();
-    drawn
+    answer
+}
+
+/// Has a maker that was begun take the parts, and fills the buffer with the front of its stream.
+fn take_and_draw<D: DigestMaker>(
+    maker: &mut D,
+    parts: &[&[u8]],
+    out: &mut [u8],
+) -> Result<(), Fault>
+    requires { Holding D.DigestMaker.function [] (D.DigestMaker.means maker.old) }
+    ensures answer { result ≡ digests (length (text_of parts.now)) (length out.old) }
+    ensures out { MatchResult result (λ _. out.new ≡ drawn D.DigestMaker.function (text_of parts.now) (length out.old)) (λ _. out.new ≡ out.old) }
+{
+    take_parts(maker, parts)?;
+    maker.draw(out)
 }
 
 /// Has a maker that was begun take the parts one after the other.
@@ -36,9 +46,7 @@ fn take_parts<D: DigestMaker>(maker: &mut D, parts: &[&[u8]]) -> Result<(), Faul
     ensures holds { OnOk result (Holding D.DigestMaker.function (text_of parts.now) (D.DigestMaker.means maker.new)) }
 {
     for part in parts {
-        if let Err(fault) = maker.take(part) {
-            return Err(fault);
-        }
+        maker.take(part)?;
     }
     Ok(())
 }

@@ -1,9 +1,21 @@
 //! Short bytes from a slice, and as one.
 ghost use Rattle.std.specs.Prelude.{◌≡◌, ◌<◌, ◌≤◌, cond, length, MatchOption};
-ghost use Rattle.std.specs.Str.{bytes_eq};
 ghost use Rattle.digest.specs.Short.{short_bytes};
 
 use crate::short::{MOST, ShortBytes};
+
+impl From<[u8; 32]> for ShortBytes {
+    ghost from_gives = { λ bytes s. short_bytes s ≡ bytes };
+
+    fn from(bytes: [u8; 32]) -> ShortBytes {
+        let mut held = [0; 64];
+        held[0..32].copy_from_slice(&bytes);
+        ShortBytes {
+            bytes: held,
+            width: 32,
+        }
+    }
+}
 
 impl ShortBytes {
     /// These bytes, unless there are more than fit.
@@ -26,11 +38,4 @@ impl ShortBytes {
     {
         &self.bytes[0..self.width]
     }
-}
-
-/// Whether two slices have the same bytes.
-pub fn same_bytes(a: &[u8], b: &[u8]) -> bool
-    ensures { result ≡ bytes_eq a.now b.now }
-{
-    a == b
 }

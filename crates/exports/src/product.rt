@@ -4,7 +4,7 @@ ghost use Rattle.lattice.specs.Lines.{at, row_entry};
 ghost use Rattle.exports.specs.Sizes.{fits};
 
 use lattice::product::multiply_row;
-use lattice::set::Set;
+use protocol::set::Set;
 
 fn fits(row: &[u16], columns: &[u16], errors: &[u16], out: &[u16]) -> bool
     ensures { result ≡ fits row.now columns.now errors.now out.now }

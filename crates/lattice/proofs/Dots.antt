@@ -7,10 +7,10 @@ use Rattle.std.proofs.lemmas.Bool.{cases_lt}
 use Rattle.std.proofs.lemmas.Nat.{mul-le, div-mul-add, mod-mul-add}
 use Rattle.protocol.specs.Parameters.{modulus}
 use Rattle.protocol.specs.Residues.{dot, product}
-use Rattle.lattice.specs.declared.set.Set.{Set}
-use Rattle.lattice.specs.declared.set.Set.TheVariants.{One, Two, Three}
+use Rattle.protocol.specs.declared.set.Set.{Set}
+use Rattle.protocol.specs.declared.set.Set.TheVariants.{One, Two, Three}
 use Rattle.lattice.specs.Lines.{at, row_entry}
-use Rattle.lattice.specs.Sets.{number}
+use Rattle.protocol.specs.Sets.{number}
 use Rattle.lattice.proofs.Sizes.{masked}
 
 pub same_sum : (q a b c d : ℕ) → a % q ≡ c % q → b % q ≡ d % q → (a + b) % q ≡ (c + d) % q

@@ -6,10 +6,10 @@ use Rattle.std.proofs.lemmas.Bool.{cond-true, cond-false, eq-eqb, ne_eqb}
 use Rattle.protocol.specs.Group.{Entries, total, others, completed}
 use Rattle.protocol.specs.Parameters.{modulus}
 use Rattle.protocol.specs.Residues.{modular}
-use Rattle.lattice.specs.declared.set.Set.{Set}
-use Rattle.lattice.specs.declared.set.Set.TheVariants.{One, Two, Three}
+use Rattle.protocol.specs.declared.set.Set.{Set}
+use Rattle.protocol.specs.declared.set.Set.TheVariants.{One, Two, Three}
 use Rattle.lattice.specs.Lines.{at}
-use Rattle.lattice.specs.Sets.{number}
+use Rattle.protocol.specs.Sets.{number}
 use Rattle.lattice.proofs.Dots.{masked_sum}
 
 -- the first k entries are those of f, and the rest those of ys

@@ -7,9 +7,9 @@ use Rattle.std.proofs.lemmas.List.Sums.{count_by-le-length, sum_by-cons}
 use Rattle.std.proofs.lemmas.Bool.{cond-true, cond-false, eq-eqb, ne_eqb}
 use Rattle.protocol.specs.Parameters.{table, modulus}
 use Rattle.protocol.specs.Sampling.{exceeded, sampled}
-use Rattle.lattice.specs.declared.set.Set.{Set}
-use Rattle.lattice.specs.declared.set.Set.TheVariants.{One, Two, Three}
-use Rattle.lattice.specs.Sets.{number}
+use Rattle.protocol.specs.declared.set.Set.{Set}
+use Rattle.protocol.specs.declared.set.Set.TheVariants.{One, Two, Three}
+use Rattle.protocol.specs.Sets.{number}
 
 pub exceeded_counts : (xs : List ℕ) (t : ℕ) → exceeded xs t ≡ count_by (λ x. ltb x t) xs
 exceeded_counts [] t = refl

@@ -4,6 +4,5 @@
 pub mod kept;
 pub mod product;
 pub mod rows;
-pub mod set;
 pub mod sums;
 pub mod values;

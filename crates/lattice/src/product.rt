@@ -3,9 +3,9 @@ ghost use Rattle.std.specs.Prelude.{◌≡◌, ℕ, ◌+◌, ◌*◌, ◌%◌, �
 ghost use Rattle.protocol.specs.Parameters.{modulus};
 ghost use Rattle.protocol.specs.Residues.{dot};
 ghost use Rattle.lattice.specs.Lines.{at, Turned, row_entry};
-ghost use Rattle.lattice.specs.Sets.{number};
+ghost use Rattle.protocol.specs.Sets.{number};
 
-use crate::set::Set;
+use protocol::set::Set;
 
 /// The inner product modulo 2^16.
 fn inner(a: &[u16], b: &[u16]) -> u16

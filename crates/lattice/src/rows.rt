@@ -7,10 +7,10 @@ ghost use Rattle.protocol.specs.Residues.{matrix, product};
 ghost use Rattle.protocol.specs.Streams.{first_bytes};
 ghost use Rattle.keccak.specs.Sponge.{shake128};
 ghost use Rattle.lattice.specs.Lines.{at};
-ghost use Rattle.lattice.specs.Sets.{number};
+ghost use Rattle.protocol.specs.Sets.{number};
 
 use crate::product::{multiply_row, turn};
-use crate::set::Set;
+use protocol::set::Set;
 use crate::values::read_residues;
 use keccak::shake128::shake128;
 

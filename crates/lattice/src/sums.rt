@@ -5,9 +5,9 @@ ghost use Rattle.protocol.specs.Group.{total, others, completed};
 ghost use Rattle.protocol.specs.Parameters.{modulus};
 ghost use Rattle.protocol.specs.Residues.{modular};
 ghost use Rattle.lattice.specs.Lines.{at};
-ghost use Rattle.lattice.specs.Sets.{number};
+ghost use Rattle.protocol.specs.Sets.{number};
 
-use crate::set::Set;
+use protocol::set::Set;
 
 /// Adds a row to a sum, entry by entry, modulo q.
 pub fn add_row(set: Set, sum: &mut [u16], row: &[u16])

@@ -6,9 +6,9 @@ ghost use Rattle.protocol.specs.Residues.{residue, residue_in};
 ghost use Rattle.protocol.specs.Streams.{stream_word};
 ghost use Rattle.protocol.specs.Sampling.{exceeded, sampled, Within, beyond, byte_of, signed};
 ghost use Rattle.lattice.specs.Lines.{at};
-ghost use Rattle.lattice.specs.Sets.{number};
+ghost use Rattle.protocol.specs.Sets.{number};
 
-use crate::set::Set;
+use protocol::set::Set;
 
 /// How many entries of a table t exceeds.
 fn exceeded(table: &[u16], t: u16) -> u8

@@ -1,5 +1,5 @@
 -- What commit, key and open answer and write.
-use Rattle.std.specs.Prelude.{ℕ, ◌+◌, ◌*◌, not, List, [], ◌∷◌, ◌++◌, map, length, Result, nat_lt, slice_index_or}
+use Rattle.std.specs.Prelude.{ℕ, ◌*◌, not, List, [], ◌∷◌, ◌++◌, map, length, Result, nat_lt, slice_index_or}
 use Rattle.std.specs.List.{flat_map}
 use Rattle.std.specs.Str.{bytes_eq}
 use Rattle.protocol.specs.declared.fault.Fault.{Fault}
@@ -13,7 +13,7 @@ use Rattle.protocol.specs.Prover.{Secret, offsets, key, honest6, honest7}
 use Rattle.protocol.specs.Sampling.{sampled, byte_of}
 use Rattle.protocol.specs.Selection.{selected, hidden_parties}
 use Rattle.protocol.specs.Sharing.{parts}
-use Rattle.protocol.specs.Streams.{Digest, First, Second, drawn}
+use Rattle.protocol.specs.Streams.{Digest, First, Second, stream_word, drawn}
 use Rattle.protocol.specs.Tests.{Test, first_failing, after}
 use Rattle.protocol.specs.Texts.{text1, text2}
 use Rattle.protocol.specs.Tree.{child, seed_at, siblings}
@@ -40,21 +40,9 @@ root F salt master e = drawn F (text2 salt e master) 32
 
 -- value word k
 abbrev pub value_word : Digest → List ℕ → List ℕ → ℕ → ℕ
-value_word F salt master k = let w = F (text1 salt master) in w (2 * k) + 256 * w (2 * k + 1)
+value_word F salt master k = stream_word (F (text1 salt master)) k
 
--- all that the master and the salt give, with what is known of the key
-abbrev pub secret : Digest → List ℕ → List ℕ → List ℕ → List ℕ → List ℕ → List ℕ → List ℕ → Secret
-secret F header salt master attributes d1 seed_a flags = let p = parameters_of header in record {
-  salt = salt;
-  d1 = d1;
-  attributes = attributes;
-  seed_a = seed_a;
-  flags = flags;
-  values = λ k. sampled (table p.set) (value_word F salt master k);
-  seed = λ e j. seed_at (child F salt e) (root F salt master e) p.h j;
-}
-
--- the same by the header's numbers
+-- all that the master and the salt give, with what is known of the key, under a header's numbers
 abbrev pub secret_of : Digest → Parameters → List ℕ → List ℕ → List ℕ → List ℕ → List ℕ → List ℕ → Secret
 secret_of F p salt master attributes d1 seed_a flags = record {
   salt = salt;
@@ -65,6 +53,10 @@ secret_of F p salt master attributes d1 seed_a flags = record {
   values = λ k. sampled (table p.set) (value_word F salt master k);
   seed = λ e j. seed_at (child F salt e) (root F salt master e) p.h j;
 }
+
+-- the same under a header's bytes
+abbrev pub secret : Digest → List ℕ → List ℕ → List ℕ → List ℕ → List ℕ → List ℕ → List ℕ → Secret
+secret F header = secret_of F (parameters_of header)
 
 -- text 6 has nothing of the key
 abbrev pub text_six : Digest → Digest → List ℕ → List ℕ → List ℕ → List ℕ → List ℕ

@@ -4,6 +4,7 @@ pub mod Bytes
 pub mod Parameters
 pub mod Layout
 pub mod Header
+pub mod Sets
 pub mod Of
 pub mod Streams
 pub mod Texts

@@ -3,11 +3,12 @@ use Rattle.std.specs.Prelude.{Ok, Err, Result}
 use Rattle.protocol.specs.declared.fault.Fault.{Fault}
 use Rattle.protocol.specs.declared.header.Header.{Header}
 use Rattle.protocol.specs.Parameters.{Parameters}
+use Rattle.protocol.specs.Sets.{number}
 
 abbrev pub parameters : Header → Parameters
 parameters x = record {
   version = x.version;
-  set = x.set;
+  set = number x.set;
   n = x.n;
   c = x.c;
   m = x.m;

@@ -42,10 +42,9 @@ module _ {G : Type 0} (s : Setting G) (p : Secret) where
   honest_commitments e = parts s.parties (λ j. s.commit p.salt e j (p.seed e j)) ++ flat_map s.rule.entries.code (offsets e)
 
   unfoldable pub honest6 : List ℕ
-  honest6 =
-      6 ∷ (s.header ++ (p.salt ++ (p.attributes ++ parts s.repetitions (λ e.
-      parts s.parties (λ j. s.commit p.salt e j (p.seed e j)) ++ flat_map s.rule.entries.code (offsets e)))))
+  honest6 = 6 ∷ (s.header ++ (p.salt ++ (p.attributes ++ parts s.repetitions honest_commitments)))
 
+  -- party j of repetition e in text 7
   abbrev pub honest_part : ℕ → ℕ → List ℕ
   honest_part e j =
       parts s.values (λ k. cond (slice_index p.flags k == 1) [] (s.rule.entries.code (corrected s p.salt (offsets e) e j (p.seed e j) k)))

@@ -3,7 +3,7 @@ use Rattle.std.specs.Prelude.{ℕ, zero, suc, ◌+◌, ◌-◌, ◌*◌, ◌/◌
 use Rattle.protocol.specs.Bytes.{le16}
 use Rattle.protocol.specs.Group.{Entries}
 use Rattle.protocol.specs.Rule.{Rule}
-use Rattle.protocol.specs.Streams.{Digest}
+use Rattle.protocol.specs.Streams.{Digest, stream_word}
 
 abbrev pub modular : ℕ → Entries ℕ
 modular q = record {
@@ -24,9 +24,9 @@ abbrev pub dot : ℕ → (ℕ → ℕ) → (ℕ → ℕ) → ℕ
 dot zero a s = 0
 dot (suc n) a s = dot n a s + a n * s n
 
--- word t of a stream, two bytes with the low one first, modulo q
+-- word t of a stream modulo q
 abbrev pub residue_in : ℕ → (ℕ → ℕ) → ℕ → ℕ
-residue_in q s t = (s (2 * t) + 256 * s (2 * t + 1)) % q
+residue_in q s t = stream_word s t % q
 
 -- entry t of row i of A: of SHAKE128 over i and seed_a
 abbrev pub matrix : Digest → ℕ → List ℕ → ℕ → ℕ → ℕ

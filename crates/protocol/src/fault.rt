@@ -1,7 +1,7 @@
 //! Why a call is refused.
 
 /// One variant for each cause, with what its place needs. docs/REFUSALS.md has the table.
-#[derive(Clone, Copy, Debug)]
+#[derive(Clone, Copy, PartialEq, Eq, Debug)]
 pub enum Fault {
     /// Fewer bytes than a header has.
     Short,
@@ -42,7 +42,7 @@ pub enum Fault {
 }
 
 /// Where in the product a refusal arises.
-#[derive(Clone, Copy)]
+#[derive(Clone, Copy, PartialEq, Eq, Debug)]
 pub enum Layer {
     Header,
     Memory,

@@ -1,7 +1,7 @@
 //! The fields of a record.
 
 /// A field of a record, by its place in the record's order; those behind the audited values stand once in each repetition.
-#[derive(Clone, Copy)]
+#[derive(Clone, Copy, PartialEq, Eq, Debug)]
 pub enum Field {
     Mark,
     Version,

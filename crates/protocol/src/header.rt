@@ -1,12 +1,14 @@
 //! The numbers that a record's header fixes.
 ghost use Rattle.std.specs.Prelude.{◌≡◌, ◌+◌, ◌*◌, ◌≤◌};
 
+use crate::set::Set;
+
 /// A header whose fields lie within their limits.
 #[derive(Clone, Copy)]
 pub struct Header {
     pub version: u16,
     /// Which constants: modulus, bound and sampling table.
-    pub set: u8,
+    pub set: Set,
     /// Rows of S, E and B, and the order of A.
     pub n: u16,
     /// Columns of S, E and B.
@@ -20,7 +22,6 @@ pub struct Header {
     /// Bytes of attributes.
     pub a: u16,
     ghost version_known: { version ≡ 1 },
-    ghost set_limits: { (1 ≤ set) × (set ≤ 3) },
     ghost n_limits: { (1 ≤ n) × (n ≤ 1344) },
     ghost c_limits: { (1 ≤ c) × (c ≤ 8) },
     ghost m_limits: { (2 * (n * c) + 1 ≤ m) × (m ≤ 32768) },

@@ -179,7 +179,7 @@ impl Header {
     {
         match field {
             Field::Version => Some(self.version),
-            Field::Set => Some(u16::from(self.set)),
+            Field::Set => Some(u16::from(self.set.number())),
             Field::Rows => Some(self.n),
             Field::Columns => Some(u16::from(self.c)),
             Field::Values => Some(self.m),

@@ -6,3 +6,4 @@ pub mod field;
 pub mod header;
 pub mod layout;
 pub mod report;
+pub mod set;

@@ -1,21 +1,19 @@
 -- The tests of a field's part are those of the record.
-use Rattle.std.proofs.Common.{◌≡◌, ℕ, ◌+◌, ◌*◌, ◌/◌, ◌<◌, ◌≤◌, Bool, true, false, not, leb, List, map, length, get_or, ℤ, Ok, Result, sym, ap, ◌∙◌, subst, arith, w8, SFits, to_z, of_z}
+use Rattle.std.proofs.Common.{◌≡◌, ℕ, ◌+◌, ◌*◌, ◌/◌, ◌<◌, ◌≤◌, zero, suc, take, drop, slice_index_or, Bool, true, false, not, leb, List, [], map, length, get_or, ℤ, Ok, Result, sym, ap, ◌∙◌, arith, w8, SFits, to_z, of_z}
 use Rattle.std.specs.List.{range_with_len}
 use Rattle.std.proofs.lemmas.List.FromFn.{fill_by_all, get_or-map-range_with_len, length-map-range_with_len}
 use Rattle.std.proofs.lemmas.Int.{to_z-of_z}
+use Rattle.std.proofs.lemmas.List.{drop-drop}
+use Rattle.std.specs.Simd.{first_chunks}
+use Rattle.std.specs.Int.{w16, from_le_bytes}
 use Rattle.protocol.specs.declared.fault.Fault.{Fault}
 use Rattle.protocol.specs.declared.fault.Fault.TheVariants.{Residue, Audited}
-use Rattle.protocol.specs.declared.field.Field.{Field}
-use Rattle.protocol.specs.declared.header.Header.{Header}
 use Rattle.protocol.specs.Book as book
 use Rattle.protocol.specs.Bytes.{part, word}
-use Rattle.protocol.specs.Layout.{offset, size}
-use Rattle.protocol.specs.Of.{parameters}
-use Rattle.protocol.specs.Parameters.{modulus, bound}
+use Rattle.protocol.specs.Parameters.{modulus}
 use Rattle.protocol.specs.Sampling.{signed, beyond}
 use Rattle.protocol.specs.Tests.{Test, first_failing}
 use Rattle.record.specs.declared.view.Part.{Part}
-use Rattle.record.specs.declared.view.Record.{Record}
 use Rattle.record.specs.Parts.{Lies}
 use Rattle.guarantee.proofs.Passing.{passed, all_tests}
 use Rattle.guarantee.proofs.Reading.{get_d_part}
@@ -26,17 +24,16 @@ use Rattle.ranges.specs.Parts.{residue_test, residue_tests, audited_test, audite
 same_tests : (f g : ℕ → Test) (n : ℕ) → ((k : ℕ) → k < n → f k ≡ g k) → map f (range_with_len 0 n) ≡ map g (range_with_len 0 n)
 same_tests f g n h = fill_by_all g (map f (range_with_len 0 n)) n (f 0) (length-map-range_with_len f 0 n) (λ k q. get_or-map-range_with_len f 0 n k k (f 0) q (omega arith) ∙ h k q)
 
-word_part : (r : List ℕ) (at n k : ℕ) → k < n → word (part r at (2 * n)) (2 * k) ≡ word r (at + 2 * k)
-word_part r at n k h = λ i.
-    get_d_part r at (2 * n) (2 * k) (omega arith) i
-    + 256 * (get_d_part r at (2 * n) (2 * k + 1) (omega arith) ∙ ap (λ z. get_or r z 0) (let z : at + (2 * k + 1) ≡ at + 2 * k + 1 = omega arith in z)) i
+word_part : (r : List ℕ) (at s k : ℕ) → 2 * k + 1 < s → word (part r at s) (2 * k) ≡ word r (at + 2 * k)
+word_part r at s k h = λ i.
+    get_d_part r at s (2 * k) (omega arith) i
+    + 256 * (get_d_part r at s (2 * k + 1) (omega arith) ∙ ap (λ z. get_or r z 0) (let z : at + (2 * k + 1) ≡ at + 2 * k + 1 = omega arith in z)) i
 
-residues_of : (r : List ℕ) (at n q : ℕ) → at + 2 * n ≤ length r →
-    residue_tests (part r at (2 * n)) at q ≡ map (λ i. book.residue_test r q (at + 2 * i)) (range_with_len 0 n)
-residues_of r at n q h =
-    let half : length (part r at (2 * n)) / 2 ≡ n = omega (arith, length_part r at (2 * n) h) in
-    ap (λ m. map (residue_test (part r at (2 * n)) at q) (range_with_len 0 m)) half
-    ∙ same_tests _ _ n (λ k l. ap (λ w. record { fails = leb q w; fault = Residue (at + 2 * k) }) (word_part r at n k l))
+residues_of : (r : List ℕ) (at s q : ℕ) → at + s ≤ length r →
+    residue_tests (part r at s) at q ≡ map (λ i. book.residue_test r q (at + 2 * i)) (range_with_len 0 (s / 2))
+residues_of r at s q h =
+    ap (λ m. map (residue_test (part r at s) at q) (range_with_len 0 (m / 2))) (length_part r at s h)
+    ∙ same_tests _ _ (s / 2) (λ k l. ap (λ w. record { fails = leb q w; fault = Residue (at + 2 * k) }) (word_part r at s k (omega arith)))
 
 audited_of : (r : List ℕ) (at n b : ℕ) → at + n ≤ length r →
     audited_tests (part r at n) at b ≡ map (λ i. book.audited_test r b (at + i)) (range_with_len 0 n)
@@ -58,23 +55,41 @@ in_range_tells b byte z answer told fits is says told_is =
     back true t h = ap not (sym h)
     back false t h = ap not (sym h)
 
--- a part of the view over these bytes with this header
-pub lies_in : (p : Part) (view : Record) (bytes : List ℕ) (h : Header) (f : Field) → view.bytes.now ≡ bytes → view.header ≡ h →
-    Lies p view.bytes.now (offset (parameters view.header) f) (size (parameters view.header) f) →
-    Lies p bytes (offset (parameters h) f) (size (parameters h) f)
-lies_in p view bytes h f over with-header l =
-    subst (λ x. Lies p bytes (offset (parameters x) f) (size (parameters x) f)) with-header
-    (subst (λ b. Lies p b (offset (parameters view.header) f) (size (parameters view.header) f)) over l)
-
-module _ (answer : Result (Unit {0}) Fault) (p : Part) (bytes : List ℕ) (at n : ℕ) where
-  pub residues_say : (q s : ℕ) → Lies p bytes at (2 * n) → at + 2 * n ≤ length bytes → q ≡ modulus s →
+-- the answer to the tests of a part that lies in the record
+module _ (answer : Result (Unit {0}) Fault) (p : Part) (bytes : List ℕ) (at n : ℕ) (l : Lies p bytes at n) (within : at + n ≤ length bytes) where
+  pub residues_say : (q s : ℕ) → q ≡ modulus s →
       answer ≡ first_failing (residue_tests p.bytes.now p.offset q) (tt {0}) →
-      answer ≡ first_failing (map (λ i. book.residue_test bytes (modulus s) (at + 2 * i)) (range_with_len 0 n)) (tt {0})
-  residues_say q s l within is says =
+      answer ≡ first_failing (map (λ i. book.residue_test bytes (modulus s) (at + 2 * i)) (range_with_len 0 (n / 2))) (tt {0})
+  residues_say q s is says =
       says ∙ (λ i. first_failing (residue_tests (l.holds i) (l.begins i) (is i)) (tt {0})) ∙ ap (λ ts. first_failing ts (tt {0})) (residues_of bytes at n (modulus s) within)
 
-  pub audited_say : (b s : ℕ) → Lies p bytes at n → at + n ≤ length bytes → b ≡ bound s →
-      answer ≡ first_failing (audited_tests p.bytes.now p.offset b) (tt {0}) →
-      answer ≡ first_failing (map (λ i. book.audited_test bytes (bound s) (at + i)) (range_with_len 0 n)) (tt {0})
-  audited_say b s l within is says =
-      says ∙ (λ i. first_failing (audited_tests (l.holds i) (l.begins i) (is i)) (tt {0})) ∙ ap (λ ts. first_failing ts (tt {0})) (audited_of bytes at n (bound s) within)
+  pub audited_say : (b : ℕ) → answer ≡ first_failing (audited_tests p.bytes.now p.offset b) (tt {0}) →
+      answer ≡ first_failing (map (λ i. book.audited_test bytes b (at + i)) (range_with_len 0 n)) (tt {0})
+  audited_say b says =
+      says ∙ (λ i. first_failing (audited_tests (l.holds i) (l.begins i) b) (tt {0})) ∙ ap (λ ts. first_failing ts (tt {0})) (audited_of bytes at n b within)
+
+-- pair i of the bytes
+pair_is : (n k i : ℕ) (xs : List ℕ) (d : List ℕ) → i < k → slice_index_or (first_chunks n k xs) i d ≡ take n (drop (i * n) xs)
+pair_is n zero i xs d h = absurd (omega arith)
+pair_is n (suc k) zero xs d h = ap (λ m. take n (drop m xs)) (let e : 0 ≡ 0 * n = omega arith in e)
+pair_is n (suc k) (suc i) xs d h = pair_is n k i (drop n xs) d (omega arith) ∙ ap (take n) (drop-drop (i * n) n xs ∙ ap (λ m. drop m xs) (let e : n + i * n ≡ suc i * n = omega arith in e))
+
+-- the tests of n entries, where a field has two bytes for each
+pub halved : (f : ℕ → Test) (n : ℕ) → first_failing (map f (range_with_len 0 n)) (tt {0}) ≡ first_failing (map f (range_with_len 0 (2 * n / 2))) (tt {0})
+halved f n = ap (λ m. first_failing (map f (range_with_len 0 m)) (tt {0})) (let e : n ≡ 2 * n / 2 = omega arith in e)
+
+-- two bytes as a number are the word at their place
+word_is : (bytes pair : List ℕ) (i : ℕ) → pair ≡ take 2 (drop (i * 2) bytes) → 2 * i + 1 < length bytes → get_or pair 0 0 + 256 * get_or pair 1 0 ≡ word bytes (2 * i)
+word_is bytes pair i e h =
+    let low : get_or pair 0 0 ≡ get_or bytes (2 * i) 0 =
+    ap (λ z. get_or z 0 0) e ∙ get_d_part bytes (i * 2) 2 0 (omega arith) ∙ ap (λ k. get_or bytes k 0) (let q : i * 2 + 0 ≡ 2 * i = omega arith in q) in
+    let high : get_or pair 1 0 ≡ get_or bytes (2 * i + 1) 0 =
+    ap (λ z. get_or z 1 0) e ∙ get_d_part bytes (i * 2) 2 1 (omega arith) ∙ ap (λ k. get_or bytes k 0) (let q : i * 2 + 1 ≡ 2 * i + 1 = omega arith in q) in
+    λ j. low j + 256 * high j
+
+-- entry i of the bytes, read as pairs
+pub entry_is : (bytes : List ℕ) (pairs : List (List ℕ)) (i x : ℕ) → pairs ≡ first_chunks 2 (length bytes / 2) bytes → i < length bytes / 2 →
+    x ≡ from_le_bytes w16 (get_or pairs i []) → x ≡ word bytes (2 * i)
+entry_is bytes pairs i x e h r =
+    r ∙ (let two : from_le_bytes w16 (get_or pairs i []) ≡ get_or (get_or pairs i []) 0 0 + 256 * get_or (get_or pairs i []) 1 0 = omega arith in two)
+    ∙ word_is bytes (get_or pairs i []) i (ap (λ z. get_or z i []) e ∙ pair_is 2 (length bytes / 2) i bytes [] h) (omega arith)

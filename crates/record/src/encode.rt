@@ -15,6 +15,20 @@ pub fn encode_header(x: Header) -> [u8; 15]
     let [m0, m1] = x.m.to_le_bytes();
     let [a0, a1] = x.a.to_le_bytes();
     [
-        b'K', b'P', b'P', version0, version1, x.set, n0, n1, x.c, m0, m1, x.h, x.tau, a0, a1,
+        b'K',
+        b'P',
+        b'P',
+        version0,
+        version1,
+        x.set.number(),
+        n0,
+        n1,
+        x.c,
+        m0,
+        m1,
+        x.h,
+        x.tau,
+        a0,
+        a1,
     ]
 }

@@ -1,13 +1,15 @@
 //! The header's tests, in their order.
-ghost use Rattle.std.specs.Prelude.{◌≡◌, ◌+◌, ◌<◌, ◌≤◌, ◌||◌, [], ◌∷◌, length, take, IfOk, OnOk, nat_lt, slice_index};
+ghost use Rattle.std.specs.Prelude.{◌≡◌, ◌+◌, ◌<◌, ◌≤◌, ◌||◌, [], ◌∷◌, length, take, not, is_ok, IfOk, OnOk, MatchResult, nat_lt, slice_index};
 ghost use Rattle.protocol.specs.Bytes.{word};
 ghost use Rattle.protocol.specs.Tests.{first_failing};
 ghost use Rattle.protocol.specs.Layout.{record_length};
 ghost use Rattle.protocol.specs.Header.{parameters_of, header_bytes, mark_test, version_test, checks_header, reads_header, reads_record};
 ghost use Rattle.protocol.specs.Of.{parameters, read_as};
+ghost use Rattle.protocol.specs.Sets.{number as number_of};
 
 use protocol::fault::Fault;
 use protocol::header::Header;
+use protocol::set::Set;
 
 /// How many bytes a header has.
 pub const HEADER_BYTES: usize = 15;
@@ -46,6 +48,14 @@ fn test_limit(offset: usize, value: usize, low: usize, high: usize) -> Result<()
     Ok(())
 }
 
+/// The set of a number, which lies from 1 to 3.
+fn test_set(number: u8) -> Result<Set, Fault>
+    ensures says { MatchResult result (λ s. number_of s ≡ number) (λ f. f ≡ Fault.Limit 5) }
+    ensures within { is_ok result ≡ not (nat_lt number 1 || nat_lt 3 number) }
+{
+    Set::try_from(number).map_err(|_| Fault::Limit { offset: 5 })
+}
+
 /// The header at the front of fifteen bytes or more, or the first test that it fails: mark, version, and the lowest field past its
 /// limit.
 fn test_header(bytes: &[u8]) -> Result<Header, Fault>
@@ -55,9 +65,9 @@ fn test_header(bytes: &[u8]) -> Result<Header, Fault>
 {
     test_kind(bytes)?;
     let version = word(bytes, 3);
-    let (set, c, h, tau) = (bytes[5], bytes[8], bytes[11], bytes[12]);
+    let (c, h, tau) = (bytes[8], bytes[11], bytes[12]);
     let (n, m, a) = (word(bytes, 6), word(bytes, 9), word(bytes, 13));
-    test_limit(5, set as usize, 1, 3)?;
+    let set = test_set(bytes[5])?;
     test_limit(6, n as usize, 1, 1344)?;
     test_limit(8, c as usize, 1, 8)?;
     test_limit(9, m as usize, 2 * (n as usize * c as usize) + 1, 32768)?;

@@ -4,4 +4,6 @@
 pub mod encode;
 pub mod header;
 pub mod parts;
+pub mod reading;
 pub mod view;
+pub mod whole;

@@ -4,10 +4,10 @@ ghost use Rattle.protocol.specs.Of.{parameters};
 ghost use Rattle.protocol.specs.Parameters.{modulus};
 ghost use Rattle.protocol.specs.Residues.{residue as residue_of};
 ghost use Rattle.protocol.specs.Sampling.{signed};
-ghost use Rattle.lattice.specs.Sets.{number};
+ghost use Rattle.protocol.specs.Sets.{number};
 ghost use Rattle.shares.specs.Shown.{spread};
 
-use lattice::set::Set;
+use protocol::set::Set;
 use lattice::values::{from_byte, residue};
 use protocol::header::Header;
 
@@ -29,7 +29,7 @@ pub fn spread_audited(header: Header, flags: &[u16], bytes: &[u8], values: &mut 
     requires room { length values.old ≡ (parameters header).m }
     ensures { values.new ≡ spread (parameters header) flags.now bytes.now }
 {
-    let set = Set::of(header);
+    let set = header.set;
     let mut next = 0;
     for k in 0..values.len() {
         values[k] = residue_at(set, bytes, next);

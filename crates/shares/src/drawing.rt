@@ -10,7 +10,7 @@ ghost use Rattle.shares.specs.Drawing.{Advanced, value_residues, share};
 use digest::maker::DigestMaker;
 use digest::short::ShortBytes;
 use digest::text::take_text;
-use lattice::set::Set;
+use protocol::set::Set;
 use lattice::values::{read_words, reduce_all, sample_all};
 use protocol::header::Header;
 
@@ -52,7 +52,7 @@ pub fn draw_values<D: DigestMaker>(
 {
     take_text(maker, 1, salt.as_slice(), master, &[]);
     draw_words(maker, values);
-    sample_all(Set::of(header), values);
+    sample_all(header.set, values);
 }
 
 /// A party's shares, modulo q.
@@ -70,5 +70,5 @@ pub fn draw_shares<D: DigestMaker>(
 {
     take_text(maker, 5, salt.as_slice(), &[e, party], seed);
     draw_words(maker, shares);
-    reduce_all(Set::of(header), shares);
+    reduce_all(header.set, shares);
 }

@@ -17,7 +17,7 @@ use crate::taking::{take_audited, take_words};
 use digest::maker::DigestMaker;
 use digest::short::ShortBytes;
 use digest::text::{draw_short, take_text};
-use lattice::set::Set;
+use protocol::set::Set;
 use lattice::sums::subtract_from;
 use protocol::header::Header;
 
@@ -84,7 +84,7 @@ pub fn take_found<D: DigestMaker>(
     requires ready { Ready most_shown (D.DigestMaker.means maker.old) }
     ensures { Took (found (parameters header) seed_a.now flags.now (at values.now) (at key.now) (at sums.now)) (D.DigestMaker.means maker.old) (D.DigestMaker.means maker.new) }
 {
-    let set = Set::of(header);
+    let set = header.set;
     shares.copy_from_slice(sums);
     subtract_from(set, values, shares);
     take_audited(maker, flags, shares);

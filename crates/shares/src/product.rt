@@ -10,7 +10,7 @@ ghost use Rattle.shares.specs.Sizes.{bench_words};
 
 use lattice::kept::gather_kept;
 use lattice::rows::multiply;
-use lattice::set::Set;
+use protocol::set::Set;
 use protocol::header::Header;
 
 /// What a product is computed in: the kept shares, S of them by columns, one row of A.
@@ -51,7 +51,7 @@ pub fn share_product(
     let Bench { kept, columns, row } = cut_bench(header, bench);
     gather_kept(shares, flags, kept);
     multiply(
-        Set::of(header),
+        header.set,
         header.c as usize,
         seed_a,
         kept,

@@ -22,7 +22,7 @@ use crate::parties::{take_commitments, take_parties};
 use crate::rows::sum_shares;
 use digest::maker::DigestMaker;
 use digest::short::ShortBytes;
-use lattice::set::Set;
+use protocol::set::Set;
 use lattice::sums::add_row;
 use lattice::values::read_words;
 use protocol::field::Field;
@@ -125,7 +125,7 @@ fn rebuild<D: DigestMaker>(
     read_words(view.part(Field::Key).bytes, key);
     sum_shares(maker, header, salt, e, nodes, party, shares, sums);
     if party != 0 {
-        add_row(Set::of(header), sums, offsets);
+        add_row(header.set, sums, offsets);
     }
 }
 

@@ -19,7 +19,7 @@ use crate::parties::{take_commitments, take_parties};
 use crate::rows::sum_shares;
 use digest::maker::DigestMaker;
 use digest::short::ShortBytes;
-use lattice::set::Set;
+use protocol::set::Set;
 use lattice::sums::subtract_from;
 use protocol::header::Header;
 use seedtree::tree::grow;
@@ -55,7 +55,7 @@ pub fn share_out<D: DigestMaker>(
         shares,
         offsets,
     );
-    subtract_from(Set::of(header), values, offsets);
+    subtract_from(header.set, values, offsets);
 }
 
 /// Feeds repetition e of text 6: all parties' commitments, then the offsets.

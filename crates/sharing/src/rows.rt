@@ -9,7 +9,7 @@ ghost use Rattle.sharing.specs.Rows.{leaf_in, summed, held};
 
 use digest::maker::DigestMaker;
 use digest::short::ShortBytes;
-use lattice::set::Set;
+use protocol::set::Set;
 use lattice::sums::add_row;
 use protocol::header::Header;
 use seedtree::words::load;
@@ -57,7 +57,7 @@ pub fn sum_shares<D: DigestMaker>(
     requires sum { length sum.old ≡ (parameters header).m }
     ensures { sum.new ≡ map (summed D.DigestMaker.function (parameters header) (short_bytes salt.now) e nodes.now left_out) (range_with_len 0 (parameters header).m) }
 {
-    let set = Set::of(header);
+    let set = header.set;
     clear(sum);
     for j in 0..header.parties() {
         if j != left_out {
@@ -86,6 +86,6 @@ pub fn hold_shares<D: DigestMaker>(
 {
     draw_row(maker, header, salt, e, nodes, j, shares);
     if j == 0 {
-        add_row(Set::of(header), shares, offsets);
+        add_row(header.set, shares, offsets);
     }
 }

@@ -3,7 +3,7 @@ use lib.Bits.{bit_and}
 use Rattle.std.proofs.lemmas.List.{get_or-set_other}
 use Rattle.protocol.specs.Parameters.{modulus}
 use Rattle.lattice.specs.Lines.{at, row_entry}
-use Rattle.lattice.specs.Sets.{number}
+use Rattle.protocol.specs.Sets.{number}
 use Rattle.lattice.proofs.Dots.{line_in, row_made, entry_more, entry_kept}
 use Rattle.lattice.proofs.product.multiply_row.Goals as goal
 

@@ -3,7 +3,7 @@ use Rattle.protocol.specs.Bytes.{le16}
 use Rattle.protocol.specs.Parameters.{modulus}
 use Rattle.protocol.specs.Streams.{first_bytes}
 use Rattle.keccak.specs.Sponge.{shake128}
-use Rattle.lattice.specs.Sets.{number}
+use Rattle.protocol.specs.Sets.{number}
 use Rattle.lattice.proofs.Streams.{pairs_of_front}
 use Rattle.lattice.proofs.rows.fill_row.Goals as goal
 

@@ -3,7 +3,7 @@ use Rattle.protocol.specs.Parameters.{modulus}
 use Rattle.protocol.specs.Residues.{matrix, product}
 use Rattle.keccak.specs.Sponge.{shake128}
 use Rattle.lattice.specs.Lines.{at}
-use Rattle.lattice.specs.Sets.{number}
+use Rattle.protocol.specs.Sets.{number}
 use Rattle.lattice.proofs.rows.multiply.Given as goal
 
 abbrev pub invariant-loop-i : goal.invariant-loop-i

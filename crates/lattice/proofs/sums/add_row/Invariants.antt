@@ -1,7 +1,7 @@
 use Rattle.protocol.specs.Parameters.{modulus}
 use Rattle.protocol.specs.Residues.{modular}
 use Rattle.lattice.specs.Lines.{at}
-use Rattle.lattice.specs.Sets.{number}
+use Rattle.protocol.specs.Sets.{number}
 use Rattle.lattice.proofs.Entrywise.{Changed}
 use Rattle.lattice.proofs.sums.add_row.Given as goal
 

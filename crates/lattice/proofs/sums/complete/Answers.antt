@@ -4,7 +4,7 @@ use Rattle.protocol.specs.Group.{others, completed}
 use Rattle.protocol.specs.Parameters.{modulus}
 use Rattle.protocol.specs.Residues.{modular}
 use Rattle.lattice.specs.Lines.{at}
-use Rattle.lattice.specs.Sets.{number}
+use Rattle.protocol.specs.Sets.{number}
 use Rattle.lattice.proofs.Entrywise.{completed_here}
 use Rattle.lattice.proofs.sums.complete.Goals as goal
 

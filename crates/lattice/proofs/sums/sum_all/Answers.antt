@@ -3,7 +3,7 @@ use Rattle.std.specs.List.{range_with_len}
 use Rattle.protocol.specs.Parameters.{modulus}
 use Rattle.protocol.specs.Residues.{modular}
 use Rattle.lattice.specs.Lines.{at}
-use Rattle.lattice.specs.Sets.{number}
+use Rattle.protocol.specs.Sets.{number}
 use Rattle.lattice.proofs.Entrywise.{others_all}
 use Rattle.lattice.proofs.sums.sum_all.Goals as goal
 

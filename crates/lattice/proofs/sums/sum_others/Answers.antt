@@ -5,7 +5,7 @@ use Rattle.protocol.specs.Group.{others}
 use Rattle.protocol.specs.Parameters.{modulus}
 use Rattle.protocol.specs.Residues.{modular}
 use Rattle.lattice.specs.Lines.{at}
-use Rattle.lattice.specs.Sets.{number}
+use Rattle.protocol.specs.Sets.{number}
 use Rattle.lattice.proofs.Dots.{line_in, part_of}
 use Rattle.lattice.proofs.Entrywise.{others_skip, others_more}
 use Rattle.lattice.proofs.sums.sum_others.Goals as goal

@@ -3,7 +3,7 @@ use Rattle.protocol.specs.Group.{others}
 use Rattle.protocol.specs.Parameters.{modulus}
 use Rattle.protocol.specs.Residues.{modular}
 use Rattle.lattice.specs.Lines.{at}
-use Rattle.lattice.specs.Sets.{number}
+use Rattle.protocol.specs.Sets.{number}
 use Rattle.lattice.proofs.sums.sum_others.Given as goal
 
 abbrev pub invariant-loop-j : goal.invariant-loop-j

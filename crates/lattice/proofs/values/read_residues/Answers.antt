@@ -4,7 +4,7 @@ use Rattle.std.proofs.lemmas.Simd.{map-map}
 use Rattle.protocol.specs.Parameters.{modulus}
 use Rattle.protocol.specs.Streams.{stream_word}
 use Rattle.lattice.specs.Lines.{at}
-use Rattle.lattice.specs.Sets.{number}
+use Rattle.protocol.specs.Sets.{number}
 use Rattle.lattice.proofs.values.read_residues.Goals as goal
 
 pub returns : goal.returns

@@ -3,7 +3,7 @@ use lib.Bits.{bit_and}
 use Rattle.std.proofs.lemmas.List.Edits.{map_over_more}
 use Rattle.std.proofs.lemmas.List.{get_or_default, take_all, drop_all, append-nil}
 use Rattle.protocol.specs.Parameters.{modulus}
-use Rattle.lattice.specs.Sets.{number}
+use Rattle.protocol.specs.Sets.{number}
 use Rattle.lattice.proofs.Sizes.{masked}
 use Rattle.lattice.proofs.values.reduce_all.Goals as goal
 

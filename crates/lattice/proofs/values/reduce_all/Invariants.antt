@@ -1,6 +1,6 @@
 use Rattle.std.proofs.Common.{◌≡◌, ◌%◌, ◌++◌, map, take, drop}
 use Rattle.protocol.specs.Parameters.{modulus}
-use Rattle.lattice.specs.Sets.{number}
+use Rattle.protocol.specs.Sets.{number}
 use Rattle.lattice.proofs.values.reduce_all.Given as goal
 
 abbrev pub invariant-loop-i : goal.invariant-loop-i

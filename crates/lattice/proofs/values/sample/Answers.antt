@@ -2,7 +2,7 @@ use Rattle.std.proofs.Common.{length, sym, ap, subst, arith, rules}
 use Rattle.guarantee.proofs.Sampling.{sampled_within}
 use Rattle.protocol.specs.Parameters.{bound}
 use Rattle.protocol.specs.Sampling.{Within}
-use Rattle.lattice.specs.Sets.{number}
+use Rattle.protocol.specs.Sets.{number}
 use Rattle.lattice.proofs.Sizes.{table_short, few, negative, positive}
 use Rattle.lattice.proofs.values.sample.Goals as goal
 

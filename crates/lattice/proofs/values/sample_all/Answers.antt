@@ -5,7 +5,7 @@ use Rattle.std.proofs.lemmas.List.{get_or_default, take_all, drop_all, append-ni
 use Rattle.protocol.specs.Parameters.{modulus, table}
 use Rattle.protocol.specs.Residues.{residue}
 use Rattle.protocol.specs.Sampling.{sampled}
-use Rattle.lattice.specs.Sets.{number}
+use Rattle.protocol.specs.Sets.{number}
 use Rattle.lattice.proofs.values.sample_all.Goals as goal
 
 pub loop-i-preserved : goal.loop-i-preserved

@@ -2,7 +2,7 @@ use Rattle.std.proofs.Common.{◌≡◌, ◌++◌, map, take, drop}
 use Rattle.protocol.specs.Parameters.{modulus, table}
 use Rattle.protocol.specs.Residues.{residue}
 use Rattle.protocol.specs.Sampling.{sampled}
-use Rattle.lattice.specs.Sets.{number}
+use Rattle.protocol.specs.Sets.{number}
 use Rattle.lattice.proofs.values.sample_all.Given as goal
 
 abbrev pub invariant-loop-i : goal.invariant-loop-i

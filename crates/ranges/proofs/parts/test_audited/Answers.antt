@@ -1,7 +1,7 @@
 use Rattle.std.proofs.Common.{true, false, length, sym, w8, SFits, rules, below_more}
 use Rattle.protocol.specs.Parameters.{bound}
 use Rattle.guarantee.proofs.Passing.{first_fails}
-use Rattle.lattice.specs.Sets.{number}
+use Rattle.protocol.specs.Sets.{number}
 use Rattle.ranges.specs.Parts.{audited_test}
 use Rattle.ranges.proofs.Fields.{none_fails, in_range_tells}
 use Rattle.ranges.proofs.parts.test_audited.Goals as goal

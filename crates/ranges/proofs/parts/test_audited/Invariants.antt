@@ -1,6 +1,6 @@
 use Rattle.std.proofs.Common.{◌≡◌, ℕ, ◌<◌, false}
 use Rattle.protocol.specs.Parameters.{bound}
-use Rattle.lattice.specs.Sets.{number}
+use Rattle.protocol.specs.Sets.{number}
 use Rattle.ranges.specs.Parts.{audited_test}
 use Rattle.ranges.proofs.parts.test_audited.Given as goal
 

@@ -7,4 +7,4 @@ returns c =
     let known = c.in_ok-test_kind.ensures.known in
     let bytes = c.args.bytes.now in
     let again = read_back bytes c.requires (λ i. (c.type_inv.bytes i).fits) known.0 known.1 known.2 in
-    record { says = search rules; back = simp (c.word-version.ensures, c.word-n.ensures, c.word-m.ensures, c.word-a.ensures) again }
+    record { says = search rules; back = simp (c.in_ok-set.ensures.says, c.word-version.ensures, c.word-n.ensures, c.word-m.ensures, c.word-a.ensures) again }

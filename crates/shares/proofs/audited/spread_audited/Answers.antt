@@ -6,7 +6,7 @@ use Rattle.protocol.specs.Flags.{audited_before}
 use Rattle.protocol.specs.Parameters.{modulus}
 use Rattle.protocol.specs.Residues.{residue}
 use Rattle.protocol.specs.Sampling.{signed}
-use Rattle.lattice.specs.Sets.{number}
+use Rattle.protocol.specs.Sets.{number}
 use Rattle.shares.specs.Shown.{spread}
 use Rattle.shares.proofs.audited.spread_audited.Goals as goal
 use Rattle.shares.proofs.audited.spread_audited.Goals.{then-flags-k-ne1, else-flags-k-ne1}

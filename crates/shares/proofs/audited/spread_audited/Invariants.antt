@@ -4,7 +4,7 @@ use Rattle.protocol.specs.Parameters.{modulus}
 use Rattle.protocol.specs.Residues.{residue}
 use Rattle.protocol.specs.Sampling.{signed}
 use Rattle.lattice.specs.Lines.{at}
-use Rattle.lattice.specs.Sets.{number}
+use Rattle.protocol.specs.Sets.{number}
 use Rattle.shares.proofs.audited.spread_audited.Given as goal
 
 abbrev pub invariant-loop-k : goal.invariant-loop-k

@@ -3,7 +3,7 @@ use Rattle.protocol.specs.Of.{parameters}
 use Rattle.protocol.specs.Parameters.{modulus}
 use Rattle.protocol.specs.Residues.{modular}
 use Rattle.lattice.specs.Lines.{at}
-use Rattle.lattice.specs.Sets.{number}
+use Rattle.protocol.specs.Sets.{number}
 use Rattle.shares.specs.Shown.{found, product_of}
 use Rattle.shares.proofs.Products.{ready_product, took_row, row_at, subtracted_row}
 use Rattle.shares.proofs.party.take_found.Goals as goal

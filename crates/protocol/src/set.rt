@@ -1,10 +1,7 @@
 //! The three sets of constants: the modulus q, the bound on a value, the sampling table.
 ghost use Rattle.std.specs.Prelude.{◌≡◌, ◌-◌};
-ghost use Rattle.protocol.specs.Of.{parameters};
 ghost use Rattle.protocol.specs.Parameters.{modulus, bound, table};
-ghost use Rattle.lattice.specs.Sets.{number};
-
-use protocol::header::Header;
+ghost use Rattle.protocol.specs.Sets.{number, Named};
 
 /// A set, as a header numbers it.
 #[derive(Clone, Copy, PartialEq, Eq, Debug)]
@@ -13,6 +10,10 @@ pub enum Set {
     Two,
     Three,
 }
+
+/// A number that no set has.
+#[derive(Clone, Copy, PartialEq, Eq, Debug)]
+pub struct UnknownSet(pub u8);
 
 const TABLE_ONE: [u16; 13] = [
     4643, 13363, 20579, 25843, 29227, 31145, 32103, 32525, 32689, 32745, 32762, 32766, 32767,
@@ -24,15 +25,30 @@ const TABLE_TWO: [u16; 11] = [
 
 const TABLE_THREE: [u16; 7] = [9142, 23462, 30338, 32361, 32725, 32765, 32767];
 
+impl TryFrom<u8> for Set {
+    type Error = UnknownSet;
+
+    ghost try_from_gives = { Named };
+
+    fn try_from(number: u8) -> Result<Self, UnknownSet> {
+        match number {
+            1 => Ok(Set::One),
+            2 => Ok(Set::Two),
+            3 => Ok(Set::Three),
+            _ => Err(UnknownSet(number)),
+        }
+    }
+}
+
 impl Set {
-    /// The set that a header names.
-    pub fn of(header: Header) -> Set
-        ensures { number result ≡ (parameters header).set }
+    /// Its number in a header.
+    pub fn number(self) -> u8
+        ensures { result ≡ number self }
     {
-        match header.set {
-            1 => Set::One,
-            2 => Set::Two,
-            _ => Set::Three,
+        match self {
+            Set::One => 1,
+            Set::Two => 2,
+            Set::Three => 3,
         }
     }
 
