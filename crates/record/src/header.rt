@@ -28,7 +28,7 @@ fn test_kind(bytes: &[u8]) -> Result<(), Fault>
     ensures says { result ≡ first_failing (mark_test bytes.now ∷ version_test (parameters_of bytes.now) ∷ []) tt }
     ensures known { OnOk result ((slice_index bytes.now 0 ≡ 75) × (slice_index bytes.now 1 ≡ 80) × (slice_index bytes.now 2 ≡ 80) × (word bytes.now 3 ≡ 1)) }
 {
-    if bytes[0] != b'K' || bytes[1] != b'P' || bytes[2] != b'P' {
+    if !bytes.starts_with(b"KPP") {
         return Err(Fault::Mark);
     }
     if word(bytes, 3) != 1 {
