@@ -2,3 +2,4 @@ pub mod Sizes
 pub mod Dots
 pub mod Streams
 pub mod Entrywise
+pub mod Gathered

@@ -10,11 +10,12 @@ pub fn gather_kept(values: &[u16], flags: &[u16], out: &mut [u16])
     requires room { length out.old ≡ ones flags.now }
     ensures { out.new ≡ map (λ m. at values.now (kept_index flags.now m)) (range_with_len 0 (length out.old)) }
 {
-    let mut filled = 0;
-    for k in 0..flags.len() {
-        if flags[k] == 1 {
-            out[filled] = values[k];
-            filled += 1;
-        }
+    for (m, (value, _)) in values
+        .iter()
+        .zip(flags)
+        .filter(|(_, flag)| **flag == 1)
+        .enumerate()
+    {
+        out[m] = *value;
     }
 }

@@ -12,11 +12,9 @@ fn inner(a: &[u16], b: &[u16]) -> u16
     requires { length b.now ≡ length a.now }
     ensures { result ≡ dot (length a.now) (at a.now) (at b.now) % 65536 }
 {
-    let mut sum = 0u16;
-    for t in 0..a.len() {
-        sum = sum.wrapping_add(a[t].wrapping_mul(b[t]));
-    }
-    sum
+    a.iter()
+        .zip(b)
+        .fold(0u16, |sum, (x, y)| sum.wrapping_add(x.wrapping_mul(*y)))
 }
 
 /// S by columns.
@@ -25,10 +23,21 @@ pub fn turn(n: usize, c: usize, s: &[u16], columns: &mut [u16])
     requires room { length columns.old ≡ c * n }
     ensures { Turned n c s.now columns.new }
 {
-    'down: for l in 0..c {
-        for t in 0..n {
-            columns[l * n + t] = s[t * c + l];
-        }
+    for (k, entry) in columns.iter_mut().enumerate() {
+        *entry = s[k % n * c + k / n];
+    }
+}
+
+/// One line of A·S + E, where `row` is a row of A; S stands by columns.
+fn multiply_line(set: Set, row: &[u16], columns: &[u16], errors: &[u16], line: &mut [u16])
+    requires columns { length columns.now ≡ length line.old * length row.now }
+    requires errors { length errors.now ≡ length line.old }
+    ensures { (l : ℕ) → l < length line.old → at line.new l ≡ row_entry (modulus (number set)) (length row.now) row.now columns.now (at errors.now l) l }
+{
+    let n = row.len();
+    for (l, entry) in line.iter_mut().enumerate() {
+        let column = &columns[l * n..l * n + n];
+        *entry = inner(row, column).wrapping_add(errors[l]) & set.mask();
     }
 }
 
@@ -49,9 +58,6 @@ pub fn multiply_row(
     ensures before { (k : ℕ) → k < i * c → at out.new k ≡ at out.old k }
     ensures after { (k : ℕ) → i * c + c ≤ k → at out.new k ≡ at out.old k }
 {
-    let n = row.len();
-    for l in 0..c {
-        let sum = inner(row, &columns[l * n..l * n + n]).wrapping_add(errors[i * c + l]);
-        out[i * c + l] = sum & set.mask();
-    }
+    let (from, to) = (i * c, i * c + c);
+    multiply_line(set, row, columns, &errors[from..to], &mut out[from..to]);
 }

@@ -18,11 +18,9 @@ use keccak::shake128::shake128;
 fn row_bytes(i: u16, seed: &[u8; 16], bytes: &mut [u8])
     ensures { bytes.new ≡ first_bytes (shake128 (le16 i ++ seed.now)) (length bytes.old) }
 {
-    let [low, high] = i.to_le_bytes();
     let mut text = [0; 18];
-    text[0] = low;
-    text[1] = high;
-    text[2..18].copy_from_slice(seed);
+    text[..2].copy_from_slice(&i.to_le_bytes());
+    text[2..].copy_from_slice(seed);
     shake128(&text, bytes);
 }
 
@@ -42,7 +40,7 @@ pub fn matrix_row(set: Set, i: u16, seed: &[u8; 16], row: &mut [u16])
 {
     let mut bytes = [0; 2688];
     let used = 2 * row.len();
-    fill_row(set, i, seed, &mut bytes[0..used], row);
+    fill_row(set, i, seed, &mut bytes[..used], row);
 }
 
 /// B = A·S + E modulo q, with one row of A held at a time, in `row`; S and then E fill `secrets` row by row, and `columns` has room
@@ -63,10 +61,10 @@ pub fn multiply(
     ensures { out.new ≡ map (product (modulus (number set)) (length row.old) c (matrix shake128 (modulus (number set)) seed.now) (at secrets.now)) (range_with_len 0 (length row.old * c)) }
 {
     let n = row.len();
-    let size = n * c;
-    turn(n, c, &secrets[0..size], columns);
+    let (s, errors) = secrets.split_at(n * c);
+    turn(n, c, s, columns);
     for i in 0..n {
         matrix_row(set, i as u16, seed, row);
-        multiply_row(set, c, i, row, columns, &secrets[size..2 * size], out);
+        multiply_row(set, c, i, row, columns, errors, out);
     }
 }

@@ -14,8 +14,8 @@ pub fn add_row(set: Set, sum: &mut [u16], row: &[u16])
     requires { length row.now ≡ length sum.old }
     ensures { sum.new ≡ map (λ k. (modular (modulus (number set))).add (at sum.old k) (at row.now k)) (range_with_len 0 (length sum.old)) }
 {
-    for k in 0..sum.len() {
-        sum[k] = sum[k].wrapping_add(row[k]) & set.mask();
+    for (k, entry) in sum.iter_mut().enumerate() {
+        *entry = entry.wrapping_add(row[k]) & set.mask();
     }
 }
 
@@ -24,8 +24,8 @@ pub fn subtract_from(set: Set, whole: &[u16], part: &mut [u16])
     requires { length whole.now ≡ length part.old }
     ensures { part.new ≡ map (λ k. (modular (modulus (number set))).sub (at whole.now k) (at part.old k)) (range_with_len 0 (length part.old)) }
 {
-    for k in 0..part.len() {
-        part[k] = whole[k].wrapping_sub(part[k]) & set.mask();
+    for (k, entry) in part.iter_mut().enumerate() {
+        *entry = whole[k].wrapping_sub(*entry) & set.mask();
     }
 }
 

@@ -1,5 +1,5 @@
 //! Values: sampled from words, as residues modulo q, and as bytes.
-ghost use Rattle.std.specs.Prelude.{◌≡◌, ◌*◌, ◌%◌, ◌≤◌, not, map, length};
+ghost use Rattle.std.specs.Prelude.{◌≡◌, ℕ, ◌*◌, ◌%◌, ◌≤◌, not, map, length};
 ghost use Rattle.std.specs.List.{range_with_len};
 ghost use Rattle.protocol.specs.Parameters.{modulus, bound, table};
 ghost use Rattle.protocol.specs.Residues.{residue, residue_in};
@@ -15,13 +15,7 @@ fn exceeded(table: &[u16], t: u16) -> u8
     requires { length table.now ≤ 100 }
     ensures { result ≡ exceeded table.now t }
 {
-    let mut size = 0;
-    for entry in table {
-        if *entry < t {
-            size += 1;
-        }
-    }
-    size
+    table.iter().filter(|entry| **entry < t).count() as u8
 }
 
 /// The value that a word stands for: bit 0 is the sign, and the size is how many entries of the set's table the other fifteen bits exceed.
@@ -67,22 +61,28 @@ pub fn in_range(set: Set, value: i8) -> bool
     value.unsigned_abs() <= set.bound()
 }
 
+/// Each word becomes what f makes of it.
+fn change_each<F: Fn(u16) -> u16>(words: &mut [u16], f: F)
+    requires { F.IsAlwaysCallable f }
+    ensures { (h : ℕ → ℕ) → ((x y : ℕ) → F.post f x y → y ≡ h x) → words.new ≡ map h words.old }
+{
+    for word in words.iter_mut() {
+        *word = f(*word);
+    }
+}
+
 /// Each word becomes the value that it stands for, modulo q.
 pub fn sample_all(set: Set, words: &mut [u16])
     ensures { words.new ≡ map (λ w. residue (modulus (number set)) (sampled (table (number set)) w)) words.old }
 {
-    for i in 0..words.len() {
-        words[i] = residue(set, sample(set, words[i]));
-    }
+    change_each(words, |word| residue(set, sample(set, word)));
 }
 
 /// Each word modulo q.
 pub fn reduce_all(set: Set, words: &mut [u16])
     ensures { words.new ≡ map (λ w. w % modulus (number set)) words.old }
 {
-    for i in 0..words.len() {
-        words[i] &= set.mask();
-    }
+    change_each(words, |word| word & set.mask());
 }
 
 /// Numbers of two bytes each.
@@ -90,8 +90,9 @@ pub fn read_words(bytes: &[u8], out: &mut [u16])
     requires { length bytes.now ≡ 2 * length out.old }
     ensures { out.new ≡ map (stream_word (at bytes.now)) (range_with_len 0 (length out.old)) }
 {
-    for t in 0..out.len() {
-        out[t] = u16::from_le_bytes([bytes[2 * t], bytes[2 * t + 1]]);
+    let (pairs, _) = bytes.as_chunks::<2>();
+    for (t, word) in out.iter_mut().enumerate() {
+        *word = u16::from_le_bytes(pairs[t]);
     }
 }
 

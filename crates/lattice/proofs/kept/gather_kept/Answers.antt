@@ -1,60 +1,37 @@
-use Rattle.std.proofs.Common.{◌≡◌, ℕ, ◌+◌, ◌<◌, List, length, get_or, take, set, sym, ap, ◌∙◌, arith, rules, below_more}
-use Rattle.std.proofs.lemmas.List.FromFn.{fill_by_all}
-use Rattle.std.proofs.lemmas.List.{take_all, get_or-set_same, get_or-set_other}
-use Rattle.protocol.specs.Flags.{ones, kept_index}
-use Rattle.soundness.proofs.Indices.{lists_ones, ones_more_yes, ones_more_no, ones_take_le}
+use Rattle.std.proofs.Common.{◌≡◌, length, set, ap, ◌∙◌, arith, rules, tests, below_more}
+use Rattle.std.proofs.lemmas.List.{length_push, get_or-set_same, get_or-set_other}
+use Rattle.std.proofs.lemmas.List.FromFn.{fill_by_all, length-enumerate_from}
+use Rattle.std.proofs.lemmas.Iterator.Consumers.{YieldsList-turn, YieldsList-end}
+use Rattle.protocol.specs.Flags.{kept_index}
 use Rattle.lattice.specs.Lines.{at}
+use Rattle.lattice.proofs.Gathered.{gathered, gathered_long, gathered_road, gathered_turn}
 use Rattle.lattice.proofs.kept.gather_kept.Goals as goal
-use Rattle.lattice.proofs.kept.gather_kept.Goals.{then-flags-k-eq1, else-flags-k-eq1}
 
--- there is room for one more
-roomy : (flags out : List ℕ) (k m : ℕ) → length out ≡ ones flags → m ≡ ones (take k flags) → k < length flags → get_or flags k 0 ≡ 1 → m < length out
-roomy flags out k m room was h one = omega (arith, room, was, ones_more_yes flags k h one, ones_take_le flags (k + 1))
+pub bounds-out-m : goal.bounds-out-m
+bounds-out-m c =
+    let t = gathered_turn c.args.values.now c.args.flags.now _ (c.in-Some.m, (c.in-Some.value.now, c.in-Some.field-0-1-1.now)) c.requires.flags
+    (YieldsList-turn (gathered_road {s = c.into_iter-m-iterator.result} _ c.args.values.now c.args.flags.now (cc) (cc) (cc) (cc) (λ x b q k. search (rules, tests)))
+    c.loop-m.yielded c.loop-m.m-iterator c.loop-m.yielded_by _ c.next.new.self _ c.in-Some.is c.next.ensures.steps) in
+    omega (arith, t.0, c.requires.room)
 
-pub bounds-out-filled : goal.bounds-out-filled
-bounds-out-filled c =
-    let h = roomy c.args.flags.now c.args.out.now c.loop-k.k c.loop-k.filled c.requires.room c.loop-k.invariant.0 c.loop-k-test.true c.if-flags-k-eq1.true in
-    omega arith
-
-pub offset_bounds-out-filled : goal.offset_bounds-out-filled
-offset_bounds-out-filled c =
-    let h = roomy c.args.flags.now c.args.out.now c.loop-k.k c.loop-k.filled c.requires.room c.loop-k.invariant.0 c.loop-k-test.true c.if-flags-k-eq1.true in
-    search rules
-
-pub overflow_add-filled : goal.overflow_add-filled
-overflow_add-filled c =
-    let h = roomy c.args.flags.now c.args.out.now c.loop-k.k c.loop-k.filled c.requires.room c.loop-k.invariant.0 c.loop-k-test.true c.if-flags-k-eq1.true in
-    search rules
-
-pub loop-k-preserved : goal.loop-k-preserved
-loop-k-preserved c =
-    let flags = c.args.flags.now in
-    let values = c.args.values.now in
-    let k = c.loop-k.k in
-    let m = c.loop-k.filled in
-    let was = c.loop-k.invariant.0 in
-    elim c.if-flags-k-eq1.branch [
-      | then-flags-k-eq1 t ↦
-          let one = t.if-flags-k-eq1.true in
-          let more = ones_more_yes flags k c.loop-k-test.true one in (
-            t.filled-is ∙ ap (λ n. n + 1) was ∙ sym more,
-            λ i h.
-                ap (λ xs. at xs i) t.out-is
-                ∙ below_more (λ j. at (set c.loop-k.out m (at values k)) j ≡ at values (kept_index flags j)) m
-                (λ j q. get_or-set_other c.loop-k.out m j _ 0 (λ o. omega arith) ∙ c.loop-k.invariant.1 j q)
-                (get_or-set_same c.loop-k.out m _ 0 (omega (arith, c.requires.room, was, more, ones_take_le flags (k + 1)))
-                ∙ ap (at values) (sym (ap (kept_index flags) was ∙ (lists_ones flags).each k c.loop-k-test.true one)))
-                i (omega (arith, t.filled-is)),
-          )
-      | else-flags-k-eq1 t ↦ (
-        t.filled-is ∙ was ∙ sym (ones_more_no flags k c.loop-k-test.true t.if-flags-k-eq1.false),
-        λ i h. ap (λ xs. at xs i) t.out-is ∙ c.loop-k.invariant.1 i (omega (arith, t.filled-is)),
-      )
-    ]
+pub loop-m-preserved : goal.loop-m-preserved
+loop-m-preserved c =
+    let t = gathered_turn c.args.values.now c.args.flags.now _ (c.in-Some.m, (c.in-Some.value.now, c.in-Some.field-0-1-1.now)) c.requires.flags
+    (YieldsList-turn (gathered_road {s = c.into_iter-m-iterator.result} _ c.args.values.now c.args.flags.now (cc) (cc) (cc) (cc) (λ x b q k. search (rules, tests)))
+    c.loop-m.yielded c.loop-m.m-iterator c.loop-m.yielded_by _ c.next.new.self _ c.in-Some.is c.next.ensures.steps) in
+    let n = length c.loop-m.yielded in
+    λ k h.
+    ap (λ m. at (set c.loop-m.out m c.in-Some.value.now) k) t.1
+    ∙ below_more (λ j. at (set c.loop-m.out n c.in-Some.value.now) j ≡ at c.args.values.now (kept_index c.args.flags.now j)) n
+    (λ j q. get_or-set_other c.loop-m.out n j _ 0 (λ o. omega arith) ∙ c.loop-m.invariant j q)
+    (get_or-set_same c.loop-m.out n _ 0 (omega (arith, t.0, c.requires.room)) ∙ t.2)
+    k (omega (arith, length_push c.loop-m.yielded (c.in-Some.m, (c.in-Some.value, c.in-Some.field-0-1-1))))
 
 pub returns : goal.returns
 returns c =
     let flags = c.args.flags.now in
-    let all : c.loop-k.filled ≡ ones flags = c.loop-k.invariant.0 ∙ ap ones (take_all c.loop-k.k flags (omega arith)) in
-    fill_by_all (λ m. at c.args.values.now (kept_index flags m)) c.loop-k.out (length c.args.out.now) 0 (omega arith)
-    (λ m h. c.loop-k.invariant.1 m (omega (arith, c.requires.room)))
+    let values = c.args.values.now in
+    let t = YieldsList-end (gathered_road {s = c.into_iter-m-iterator.result} _ values flags (cc) (cc) (cc) (cc) (λ x b q k. search (rules, tests)))
+    c.loop-m.yielded c.loop-m.m-iterator c.loop-m.yielded_by _ c.next.new.self c.in-None.is c.next.ensures.steps in
+    fill_by_all (λ m. at values (kept_index flags m)) c.loop-m.out (length c.args.out.now) 0 (omega arith)
+    (λ m h. c.loop-m.invariant m (omega (arith, c.requires.room, t.1, length-enumerate_from 0 (gathered values flags), gathered_long values flags c.requires.flags)))

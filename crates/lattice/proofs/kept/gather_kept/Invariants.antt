@@ -1,9 +1,7 @@
-use Rattle.std.proofs.Common.{◌≡◌, ℕ, ◌<◌, take}
-use Rattle.protocol.specs.Flags.{ones, kept_index}
+use Rattle.std.proofs.Common.{◌≡◌, ℕ, ◌<◌, length}
+use Rattle.protocol.specs.Flags.{kept_index}
 use Rattle.lattice.specs.Lines.{at}
 use Rattle.lattice.proofs.kept.gather_kept.Given as goal
 
-abbrev pub invariant-loop-k : goal.invariant-loop-k
-invariant-loop-k l =
-    (l.filled ≡ ones (take l.k l.flags))
-    × ((m : ℕ) → m < l.filled → at l.out m ≡ at l.values (kept_index l.flags m))
+abbrev pub invariant-loop-m : goal.invariant-loop-m
+invariant-loop-m l = (k : ℕ) → k < length l.yielded → at l.out k ≡ at l.values (kept_index l.flags k)

@@ -1,13 +1,13 @@
-use Rattle.std.proofs.Common.{◌≡◌, ◌+◌, ◌-◌, ◌*◌, length, get_or, take, drop, sym, ap, ◌∙◌, le_refl, arith}
+use Rattle.std.proofs.Common.{◌≡◌, ◌+◌, ◌*◌, length, get_or, sym, ap, ◌∙◌, le_refl, arith}
 use Rattle.std.proofs.lemmas.Nat.{mul-add-lt, mul-le}
 use Rattle.std.proofs.lemmas.List.FromFn.{fill_by_all, get_or-map-range_with_len}
-use Rattle.std.proofs.lemmas.List.{length-take, length-drop, get_or-take}
+use Rattle.std.proofs.lemmas.List.{get_or-take, get_or-drop}
 use Rattle.protocol.specs.Parameters.{modulus}
 use Rattle.protocol.specs.Residues.{matrix, product}
 use Rattle.keccak.specs.Sponge.{shake128}
 use Rattle.lattice.specs.Lines.{at, row_entry}
-use Rattle.protocol.specs.Sets.{number}
-use Rattle.lattice.proofs.Dots.{line_in, row_is, lines_more, part_of}
+use Rattle.lattice.specs.Sets.{number}
+use Rattle.lattice.proofs.Dots.{line_in, row_is, lines_more}
 use Rattle.lattice.proofs.rows.multiply.Goals as goal
 
 pub multiply_row-requires : goal.multiply_row-requires
@@ -16,7 +16,7 @@ multiply_row-requires c =
     let long : length c.matrix_row.new.row ≡ length c.args.row.now = omega arith in
     let wide : length c.turn.new.columns ≡ w * length c.args.row.now = omega arith in
     let h = line_in c.loop-i.i w (length c.args.row.now) c.loop-i-test.true in
-    record { columns = wide ∙ ap (λ z. w * z) (sym long); errors = simp (length-take, length-drop) (omega arith); room = omega arith }
+    record { columns = wide ∙ ap (λ z. w * z) (sym long); errors = omega arith; room = omega arith }
 
 pub loop-i-preserved : goal.loop-i-preserved
 loop-i-preserved c =
@@ -31,11 +31,11 @@ loop-i-preserved c =
     lines_more (product q n w a (at xs)) c.loop-i.out c.multiply_row.new.out i w c.multiply_row.ensures.before c.loop-i.invariant
     (λ l h.
     c.multiply_row.ensures.fresh l h
-    ∙ ap (λ z. row_entry q z row c.turn.new.columns (at (take (2 * (n * w) - n * w) (drop (n * w) xs)) (i * w + l)) l) long
+    ∙ ap (λ z. row_entry q z row c.turn.new.columns (at c.split_at.result.1.now (i * w + l)) l) long
     ∙ row_is q n w a (at xs) row c.turn.new.columns i l _ h
     (λ t k. ap (λ r. get_or r t 0) c.matrix_row.ensures ∙ get_or-map-range_with_len (a i) 0 _ t t 0 (omega arith) (omega arith))
-    (λ t k. c.turn.ensures t l k h ∙ get_or-take (n * w - 0) xs (t * w + l) 0 (omega (arith, mul-add-lt t w l n k h)))
-    (part_of xs (n * w) (2 * (n * w)) (i * w + l) (omega (arith, mul-add-lt i w l n c.loop-i-test.true h))))
+    (λ t k. c.turn.ensures t l k h ∙ ap (λ ys. at ys (t * w + l)) c.split_at.ensures.front ∙ get_or-take (n * w) xs (t * w + l) 0 (omega (arith, mul-add-lt t w l n k h)))
+    (ap (λ ys. at ys (i * w + l)) c.split_at.ensures.back ∙ get_or-drop (n * w) xs (i * w + l) 0))
 
 pub returns : goal.returns
 returns c =
