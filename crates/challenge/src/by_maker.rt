@@ -59,7 +59,7 @@ fn take_maker<D: DigestMaker>(held: &mut Option<D>) -> D
     }
 }
 
-// a maker need not be `Drop`, so that nothing may stand in the place
+/// Puts a maker into an empty place: one that is taken could not be let go, since makers need not be `Drop`.
 fn put_maker<D: DigestMaker>(held: &mut Option<D>, maker: D)
     requires { held.old ≡ None }
     ensures { held.new ≡ Some maker }
