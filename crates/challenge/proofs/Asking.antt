@@ -46,12 +46,3 @@ filled_ok (Err f) {s} {u} {o} {m} m' n old out h le was len a k =
     ∙ ap (λ b. cond b (Err PastLimit) (Ok (tt {0}))) (le-ltb limit (u + n) le) in
     let e : Err f ≡ Ok (tt {0}) = a ∙ told in
     let z : ◌≡◌ {A = ℕ} 0 1 = cc in absurd (omega arith)
-
--- the same, in the words of what a challenger answers once it was asked
-pub own_first : {a b : List ℕ} {o m : Answering} → Started (o.first a b) o m → Reading (m.first a b) 0 m m
-own_first {a} {b} {o} {m} k = record {
-  first = refl;
-  second = refl;
-  rest = k.rest ∙ (λ z. Some (sym k.first z a b)) ∙ ap Some (fun_ext (λ i. ap (m.first a b) (sym (zero-add i))));
-  filled = k.filled;
-}
