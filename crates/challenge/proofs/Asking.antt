@@ -1,42 +1,21 @@
 -- What questions and fills come to.
-use Rattle.std.proofs.Common.{◌≡◌, ℕ, ◌+◌, ◌≤◌, Bool, true, false, cond, not, ltb, List, [], ◌∷◌, ◌++◌, length, is_some, is_ok, Some, None, Ok, Err, Result, sym, refl, ap, ◌∙◌, subst, add_assoc, zero-add, arith, MatchResult}
+use Rattle.std.proofs.Common.{◌≡◌, ℕ, ◌+◌, ◌≤◌, true, cond, not, ltb, List, length, is_some, is_ok, Some, Ok, Err, Option, Result, sym, refl, ap, ◌∙◌, subst, add_assoc, zero-add, arith, MatchResult}
 use mathlib.Core.Path.{fun_ext}
-use Rattle.std.proofs.lemmas.List.{append-nil}
 use Rattle.std.proofs.lemmas.Bool.{le-ltb}
 use Rattle.protocol.specs.declared.fault.Fault.{Fault}
 use Rattle.protocol.specs.declared.fault.Fault.TheVariants.{Turn, PastLimit}
-use Rattle.protocol.specs.Streams.{Digest, First, Second, first_bytes}
-use Rattle.digest.specs.Making.{Making, limit, draws, Drew, Holding}
-use Rattle.digest.proofs.Runs.{holding_stream}
+use Rattle.protocol.specs.Streams.{First, Second, first_bytes}
+use Rattle.digest.specs.Making.{Making, limit, Drew}
 use Rattle.challenge.specs.Answering.{Answering, Started, Filled, Reading, nexts, stream_of, by_maker}
 
 -- a fill that is drawn from the maker of a challenger that was asked
-pub next_by_maker : (G1 : First) (G2 : Second) (asked : Bool) (m m' : Making) (r : Result (Unit {0}) Fault) (old out : List ℕ) → asked ≡ true →
-    r ≡ draws m (length old) → MatchResult r (λ _. Drew out m m') (λ _. (out ≡ old) × (m' ≡ m)) →
-    (r ≡ nexts (by_maker G1 G2 m asked) (length old))
-    × MatchResult r (λ _. Filled out (by_maker G1 G2 m asked) (by_maker G1 G2 m' asked)) (λ _. (out ≡ old) × (by_maker G1 G2 m' asked ≡ by_maker G1 G2 m asked))
-next_by_maker G1 G2 false m m' r old out e a k = let z : ◌≡◌ {A = ℕ} 0 1 = ap (λ b. cond b 1 0) e in absurd (omega arith)
-next_by_maker G1 G2 true m m' (Ok u) old out e a k = (
-  a,
-  record {
-    bytes = k.bytes;
-    first = refl;
-    second = refl;
-    rest = ap Some (fun_ext (λ i. k.rest i));
-    filled = k.drawn;
-  },
-)
-next_by_maker G1 G2 true m m' (Err f) old out e a k = (a, (k.0, ap (λ n. by_maker G1 G2 n true) k.1))
-
--- a question that has the maker hold a text
-pub started_by_maker : {F : Digest} (G1 : First) (G2 : Second) (m m' : Making) (asked asked' : Bool) (text : List ℕ) → Holding F text m' → asked' ≡ true →
-    Started (F text) (by_maker G1 G2 m asked) (by_maker G1 G2 m' asked')
-started_by_maker G1 G2 m m' asked asked' text h e = record {
-  first = refl;
-  second = refl;
-  rest = ap (λ b. cond b (Some (m'.rule [])) None) e ∙ ap Some (holding_stream h);
-  filled = h.drawn;
-}
+pub next_by_maker : (G1 : First) (G2 : Second) (o : Option Making) (m m' : Making) (r : Result (Unit {0}) Fault) (old out : List ℕ) → o ≡ Some m →
+    MatchResult r (λ _. Drew out m m') (λ _. (out ≡ old) × (m' ≡ m)) →
+    MatchResult r (λ _. Filled out (by_maker G1 G2 o) (by_maker G1 G2 (Some m'))) (λ _. (out ≡ old) × (by_maker G1 G2 (Some m') ≡ by_maker G1 G2 o))
+next_by_maker G1 G2 o m m' (Ok u) old out e k =
+    subst (λ z. Filled out (by_maker G1 G2 z) (by_maker G1 G2 (Some m'))) (sym e)
+    (record { bytes = k.bytes; first = refl; second = refl; rest = ap Some (fun_ext (λ i. k.rest i)); filled = k.drawn })
+next_by_maker G1 G2 o m m' (Err f) old out e k = (k.0, ap (λ n. by_maker G1 G2 (Some n)) k.1 ∙ ap (by_maker G1 G2) (sym e))
 
 pub started_reads : {s : ℕ → ℕ} {o m : Answering} → Started s o m → Reading s 0 o m
 started_reads {s} k = record {
@@ -67,20 +46,3 @@ filled_ok (Err f) {s} {u} {o} {m} m' n old out h le was len a k =
     ∙ ap (λ b. cond b (Err PastLimit) (Ok (tt {0}))) (le-ltb limit (u + n) le) in
     let e : Err f ≡ Ok (tt {0}) = a ∙ told in
     let z : ◌≡◌ {A = ℕ} 0 1 = cc in absurd (omega arith)
-
--- the same text in other words
-pub holding_same : {F : Digest} {m : Making} (label : ℕ) {a a' b b' c c' : List ℕ} → a ≡ a' → b ≡ b' → c ≡ c' →
-    Holding F (label ∷ (a ++ (b ++ c))) m → Holding F (label ∷ (a' ++ (b' ++ c'))) m
-holding_same {F} {m} label p q r h = subst (λ t. Holding F t m) (λ i. label ∷ (p i ++ (q i ++ r i))) h
-
-pub holding_two : {F : Digest} {m : Making} (label : ℕ) (a b : List ℕ) → Holding F (label ∷ (a ++ (b ++ []))) m → Holding F (label ∷ (a ++ b)) m
-holding_two {F} {m} label a b h = subst (λ t. Holding F (label ∷ (a ++ t)) m) (append-nil b) h
-
--- the same, in the words of what a challenger answers once it was asked
-pub own_first : {a b : List ℕ} {o m : Answering} → Started (o.first a b) o m → Reading (m.first a b) 0 m m
-own_first {a} {b} {o} {m} k = record {
-  first = refl;
-  second = refl;
-  rest = k.rest ∙ (λ z. Some (sym k.first z a b)) ∙ ap Some (fun_ext (λ i. ap (m.first a b) (sym (zero-add i))));
-  filled = k.filled;
-}

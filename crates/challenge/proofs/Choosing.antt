@@ -1,5 +1,5 @@
 -- A selection, draw by draw.
-use Rattle.std.proofs.Common.{◌≡◌, ℕ, ◌+◌, ◌-◌, ◌*◌, ◌%◌, ◌<◌, List, length, get_or, sym, ap, ◌∙◌, zero-add, add-one, arith}
+use Rattle.std.proofs.Common.{◌≡◌, ℕ, suc, ◌+◌, ◌-◌, ◌*◌, ◌%◌, ◌<◌, ◌≤◌, List, length, get_or, ap, ◌∙◌, zero-add, arith}
 use Rattle.std.proofs.lemmas.List.FromFn.{fill_by_all, length-map-range_with_len, get_or-map-range_with_len}
 use Rattle.protocol.specs.Streams.{first_bytes}
 use Rattle.protocol.specs.Selection.{little, keep, picks, selected, hidden_parties}
@@ -21,11 +21,13 @@ number_is s at x bytes e h =
     let p7 : get_or bytes 7 0 ≡ s (at + 1 + 1 + 1 + 1 + 1 + 1 + 1) = ap (λ b. get_or b 7 0) e ∙ ap s (let z : at + 7 ≡ at + 1 + 1 + 1 + 1 + 1 + 1 + 1 = omega arith in z) in
     omega arith
 
--- one draw more
-pub picks_more : (draw : ℕ → ℕ) (m sigma k x : ℕ) (flags : List ℕ) → flags ≡ picks draw m sigma k → x ≡ draw k →
-    keep flags (m - sigma + k) (x % (m - sigma + k + 1)) ≡ picks draw m sigma (k + 1)
-picks_more draw m sigma k x flags e d =
-    (λ z. keep (e z) (m - sigma + k) (d z % (m - sigma + k + 1))) ∙ ap (picks draw m sigma) (sym (add-one k))
+-- one draw more, for value j
+pub picks_more : (draw : ℕ → ℕ) (m sigma j x : ℕ) (flags : List ℕ) → m - sigma ≤ j → flags ≡ picks draw m sigma (j - (m - sigma)) → x ≡ draw (j - (m - sigma)) →
+    keep flags j (x % (j + 1)) ≡ picks draw m sigma (j + 1 - (m - sigma))
+picks_more draw m sigma j x flags low e d =
+    let at : j ≡ m - sigma + (j - (m - sigma)) = omega arith in
+    let more : suc (j - (m - sigma)) ≡ j + 1 - (m - sigma) = omega arith in
+    (λ z. keep (e z) (at z) (d z % (at z + 1))) ∙ ap (picks draw m sigma) more
 
 -- all draws: the selection
 pub picks_all : (s : ℕ → ℕ) (m sigma k : ℕ) (flags : List ℕ) → flags ≡ picks (λ i. little s (8 * i) 8) m sigma k → k ≡ sigma → flags ≡ selected s m sigma

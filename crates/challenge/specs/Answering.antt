@@ -1,8 +1,9 @@
 -- What a challenger means, and what its calls do to it.
-use Rattle.std.specs.Prelude.{◌≡◌, ℕ, ◌+◌, Bool, cond, not, List, [], ◌∷◌, length, is_some, Some, None, Option, Result}
+use Rattle.std.specs.Prelude.{◌≡◌, ℕ, ◌+◌, not, List, [], ◌∷◌, length, is_some, Some, None, Option, Result, option_map}
+use Rattle.std.specs.Option.{option_map_or}
 use Rattle.protocol.specs.declared.fault.Fault.{Fault}
 use Rattle.protocol.specs.declared.fault.Fault.TheVariants.{Turn}
-use Rattle.protocol.specs.Streams.{First, Second, first_bytes}
+use Rattle.protocol.specs.Streams.{Digest, First, Second, first_bytes}
 use Rattle.protocol.specs.Tests.{Test, first_failing}
 use Rattle.digest.specs.Making.{Making, limit_test}
 
@@ -47,9 +48,16 @@ pub record Reading (s : ℕ → ℕ) (u : ℕ) (o m : Answering) : Type 0 where
   pub rest : m.rest ≡ Some (λ i. s (u + i))
   pub filled : m.filled ≡ u
 
--- a challenger that answers by a maker: its stream is what the maker still gives, once a question was asked
-abbrev pub by_maker : First → Second → Making → Bool → Answering
-by_maker G1 G2 m asked = record { first = G1; second = G2; rest = cond asked (Some (m.rule [])) None; filled = m.drawn }
+-- answers that are drawn on texts, by a maker of the kind F
+abbrev pub drawn_on_first : Digest → (List ℕ → List ℕ → List ℕ) → First
+drawn_on_first F text salt d1 = F (text salt d1)
+
+abbrev pub drawn_on_second : Digest → (List ℕ → List ℕ → List ℕ → List ℕ) → Second
+drawn_on_second F text salt d1 d2 = F (text salt d1 d2)
+
+-- a challenger that answers by a maker: its stream is what the maker still gives, once a question was asked; none before
+abbrev pub by_maker : First → Second → Option Making → Answering
+by_maker G1 G2 m = record { first = G1; second = G2; rest = option_map (λ k. k.rule []) m; filled = option_map_or (λ k. k.drawn) m 0 }
 
 -- no call alters the answers
 pub record SameAnswers (m m' : Answering) : Type 0 where

@@ -16,7 +16,7 @@ fn flag(flags: &[u16], k: usize) -> u8
     ensures value { result ≡ slice_index flags.now k }
     ensures small { result < 2 }
 {
-    if k < flags.len() { flags[k] as u8 } else { 0 }
+    flags.get(k).map_or(0, |flag| *flag as u8)
 }
 
 /// The flags of values 8·b to 8·b + 7 as one byte.
@@ -25,15 +25,11 @@ fn flag_byte(flags: &[u16], b: usize) -> u8
     requires place { b ≤ 32768 }
     ensures { result ≡ bits flags.now (8 * b) 8 }
 {
-    let k = 8 * b;
-    flag(flags, k)
-        + 2 * flag(flags, k + 1)
-        + 4 * flag(flags, k + 2)
-        + 8 * flag(flags, k + 3)
-        + 16 * flag(flags, k + 4)
-        + 32 * flag(flags, k + 5)
-        + 64 * flag(flags, k + 6)
-        + 128 * flag(flags, k + 7)
+    let mut byte = 0;
+    for k in (8 * b..8 * b + 8).rev() {
+        byte = 2 * byte + flag(flags, k);
+    }
+    byte
 }
 
 /// Packs flags that are 0 or 1 into bytes; bits past the last flag are 0.
@@ -42,8 +38,8 @@ pub fn pack(flags: &[u16], out: &mut [u8])
     requires room { length out.old ≤ 4096 }
     ensures { out.new ≡ packed flags.now (length out.old) }
 {
-    for b in 0..out.len() {
-        out[b] = flag_byte(flags, b);
+    for (b, byte) in out.iter_mut().enumerate() {
+        *byte = flag_byte(flags, b);
     }
 }
 
@@ -52,8 +48,8 @@ pub fn unpack(bytes: &[u8], flags: &mut [u16])
     requires { length flags.old ≤ 8 * length bytes.now }
     ensures { flags.new ≡ unpacked bytes.now (length flags.old) }
 {
-    for k in 0..flags.len() {
-        flags[k] = ((bytes[k / 8] >> (k % 8)) % 2) as u16;
+    for (k, flag) in flags.iter_mut().enumerate() {
+        *flag = ((bytes[k / 8] >> (k % 8)) % 2) as u16;
     }
 }
 
@@ -72,9 +68,5 @@ fn count_bits(bytes: &[u8]) -> u32
     requires { length bytes.now ≤ 4096 }
     ensures { result ≡ bits_set bytes.now }
 {
-    let mut sum = 0;
-    for b in bytes {
-        sum += b.count_ones();
-    }
-    sum
+    bytes.iter().map(|b| b.count_ones()).sum()
 }

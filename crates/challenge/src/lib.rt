@@ -4,4 +4,5 @@
 pub mod by_maker;
 pub mod challenger;
 pub mod flags;
+pub mod questions;
 pub mod selection;

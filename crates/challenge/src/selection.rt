@@ -28,12 +28,6 @@ fn keep(flags: &mut [u16], j: usize, draw: u64)
     }
 }
 
-fn clear(flags: &mut [u16])
-    ensures { flags.new ≡ replicate (length flags.old) 0 }
-{
-    flags.fill(0);
-}
-
 /// Asks the first question, and flags as many of the values as are to be kept.
 fn flag_kept<C: Challenger>(
     challenger: &mut C,
@@ -47,13 +41,12 @@ fn flag_kept<C: Challenger>(
     ensures flags { flags.new ≡ selected ((C.Challenger.answers challenger.old).first (short_bytes salt.now) (short_bytes d1.now)) (length flags.old) count }
     ensures same { SameAnswers (C.Challenger.answers challenger.old) (C.Challenger.answers challenger.new) }
 {
-    clear(flags);
+    flags.fill(0);
     challenger.first(salt, d1);
-    let from = flags.len() - count;
-    for k in 0..count {
+    for j in flags.len() - count..flags.len() {
         let mut bytes = [0; 8];
         challenger.next(&mut bytes).unwrap();
-        keep(flags, from + k, u64::from_le_bytes(bytes));
+        keep(flags, j, u64::from_le_bytes(bytes));
     }
 }
 

@@ -1,5 +1,6 @@
 -- A challenger by script: both its streams have one byte at 0, another at 8, and zeros elsewhere.
-use Rattle.std.specs.Prelude.{ℕ, ◌+◌, cond, Some, None, ◌==◌}
+use Rattle.std.specs.Prelude.{ℕ, ◌+◌, cond, ◌==◌, option_map}
+use Rattle.std.specs.Option.{option_map_or}
 use Rattle.challenge.specs.Answering.{Answering}
 use Rattle.challenge_tests.specs.declared.script.Scripted.{Scripted}
 
@@ -10,6 +11,6 @@ abbrev pub answers_of : Scripted → Answering
 answers_of s = record {
   first = λ salt d1. script s.one s.two;
   second = λ salt d1 d2. script s.one s.two;
-  rest = cond s.asked (Some (λ i. script s.one s.two (s.filled + i))) None;
-  filled = s.filled;
+  rest = option_map (λ n i. script s.one s.two (n + i)) s.filled;
+  filled = option_map_or (λ n. n) s.filled 0;
 }

@@ -21,26 +21,12 @@ mod tests {
     // set 1, n = c = tau = 1, h = 2, M = 4, a = 0: two of four values are kept, and there are four parties
     const HEADER: [u8; 15] = [75, 80, 80, 1, 0, 1, 1, 0, 1, 4, 0, 2, 1, 0, 0];
 
-    fn number(answer: Result<(), Fault>) -> u8 {
-        match answer {
-            Ok(()) => 0,
-            Err(fault) => fault.number(),
-        }
-    }
-
     fn selects(rt: &impl Abort, one: u8, two: u8, due: [u16; 4]) -> Result<(), Fail> {
-        let Ok(header) = check_header(&HEADER) else {
-            return Err(Fail::new("refused"));
-        };
-        let Some(salt) = ShortBytes::new(&[1; 32]) else {
-            return Err(Fail::new("too long"));
-        };
+        let header = check_header(&HEADER).map_err(|_| Fail::new("refused"))?;
+        let salt = ShortBytes::new(&[1; 32]).ok_or_else(|| Fail::new("too long"))?;
         let mut challenger = Scripted::new(one, two);
         let mut flags = [9; 4];
-        assert_eq!(rt;
-            number(select_kept(&mut challenger, &salt, &salt, header, &mut flags)),
-            0
-        );
+        assert!(rt; select_kept(&mut challenger, &salt, &salt, header, &mut flags).is_ok());
         assert!(rt; flags == due);
         Ok(())
     }
@@ -53,17 +39,12 @@ mod tests {
 
     #[test]
     fn hidden_party(rt: HostRuntime) -> Result<(), Fail> {
-        let Ok(header) = check_header(&HEADER) else {
-            return Err(Fail::new("refused"));
-        };
-        let Some(salt) = ShortBytes::new(&[1; 32]) else {
-            return Err(Fail::new("too long"));
-        };
+        let header = check_header(&HEADER).map_err(|_| Fail::new("refused"))?;
+        let salt = ShortBytes::new(&[1; 32]).ok_or_else(|| Fail::new("too long"))?;
         let mut challenger = Scripted::new(254, 0);
         let mut hidden = [9; 1];
-        assert_eq!(rt;
-            number(choose_hidden(&mut challenger, &salt, &salt, &salt, header, &mut hidden)),
-            0
+        assert!(rt;
+            choose_hidden(&mut challenger, &salt, &salt, &salt, header, &mut hidden).is_ok()
         );
         assert!(rt; hidden == [2]);
         Ok(())
@@ -73,7 +54,8 @@ mod tests {
     fn before_any_question(rt: HostRuntime) {
         let mut challenger: Derived<Shake256> = Derived::new();
         let mut out = [9; 3];
-        assert_eq!(rt; number(challenger.next(&mut out)), 15);
+        let refusal = challenger.next(&mut out).err();
+        assert_eq!(rt; refusal.map(|fault| fault.number()), Some(15));
         assert!(rt; out == [9; 3]);
     }
 }

@@ -1,5 +1,5 @@
 //! What the scripted challenger answers.
-ghost use Rattle.std.specs.Prelude.{◌≡◌, ◌+◌, ◌≤◌, false, length};
+ghost use Rattle.std.specs.Prelude.{◌≡◌, ◌+◌, ◌≤◌, None, length};
 ghost use Rattle.protocol.specs.Streams.{first_bytes};
 ghost use Rattle.challenge_tests.specs.Script.{script as script_of, answers_of};
 
@@ -14,13 +14,12 @@ impl Scripted {
     pub fn new(one: u8, two: u8) -> Scripted
         ensures one { result.one ≡ one }
         ensures two { result.two ≡ two }
-        ensures asked { result.asked ≡ false }
+        ensures filled { result.filled ≡ None }
     {
         Scripted {
             one,
             two,
-            asked: false,
-            filled: 0,
+            filled: None,
         }
     }
 }
@@ -41,8 +40,8 @@ fn fill(one: u8, two: u8, from: u64, out: &mut [u8])
     requires { from + length out.old ≤ 4294967295 }
     ensures { out.new ≡ first_bytes (λ i. script_of one two (from + i)) (length out.old) }
 {
-    for k in 0..out.len() {
-        out[k] = script(one, two, from + k as u64);
+    for (k, byte) in out.iter_mut().enumerate() {
+        *byte = script(one, two, from + k as u64);
     }
 }
 
@@ -50,25 +49,21 @@ impl Challenger for Scripted {
     ghost answers = { answers_of };
 
     fn first(&mut self, _salt: &ShortBytes, _d1: &ShortBytes) {
-        self.asked = true;
-        self.filled = 0;
+        self.filled = Some(0);
     }
 
     fn second(&mut self, _salt: &ShortBytes, _d1: &ShortBytes, _d2: &ShortBytes) {
-        self.asked = true;
-        self.filled = 0;
+        self.filled = Some(0);
     }
 
     fn next(&mut self, out: &mut [u8]) -> Result<(), Fault> {
-        if !self.asked {
-            return Err(Fault::Turn);
-        }
+        let filled = self.filled.ok_or(Fault::Turn)?;
         let more = out.len() as u64;
-        if more > LIMIT - self.filled {
+        if more > LIMIT - filled {
             return Err(Fault::PastLimit);
         }
-        fill(self.one, self.two, self.filled, out);
-        self.filled += more;
+        fill(self.one, self.two, filled, out);
+        self.filled = Some(filled + more);
         Ok(())
     }
 }
