@@ -1,5 +1,5 @@
 -- What a hasher means.
-use Rattle.std.specs.Prelude.{ℕ, ◌+◌, ◌%◌, List, ◌++◌, length, take}
+use Rattle.std.specs.Prelude.{◌≡◌, ℕ, ◌+◌, ◌%◌, ◌^◌, List, ◌++◌, length, take}
 use Rattle.sha512.specs.declared.hasher.Hasher.{Hasher}
 use Rattle.sha512.specs.Hash.{padding, absorbed}
 
@@ -14,3 +14,8 @@ after s y = absorbed s.words (waiting s ++ y)
 -- the words of the hash, if the bytes x follow and the text ends with them
 unfoldable pub ended : Hasher → List ℕ → List ℕ
 ended s x = after s (x ++ padding (s.total + length x))
+
+-- the hasher s' is s after it took the bytes
+pub record HasTaken (bytes : List ℕ) (s s' : Hasher) : Type 0 where
+  pub words : (y : List ℕ) → after s' y ≡ after s (bytes ++ y)
+  pub total : s'.total ≡ (s.total + length bytes) % 2 ^ 64

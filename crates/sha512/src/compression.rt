@@ -1,8 +1,10 @@
 //! The compression function of SHA-512.
-ghost use Rattle.std.specs.Prelude.{◌≡◌, ◌<◌, ◌≤◌, length, if◌then◌else◌, nat_lt};
-ghost use Rattle.sha512.specs.Sha512.{ch, maj, big_sigma0, big_sigma1, small_sigma0, small_sigma1, block_word, next_word, schedule, round, rounds, sums, compressed};
+ghost use Rattle.std.specs.Prelude.{◌≡◌, ◌/◌, ◌^◌, ◌<◌, ◌≤◌, bit_xor};
+ghost use Rattle.std.specs.Int.{rotate_right, w64};
+ghost use Rattle.sha512.specs.Sha512.{ch, maj, next_word, schedule, round, rounds, sums, compressed};
 
 use crate::tables::ROUND_CONSTANTS;
+use std::array;
 
 /// The bits of y where x has a one, and of z where it has a zero.
 fn choose(x: u64, y: u64, z: u64) -> u64
@@ -18,47 +20,19 @@ fn majority(x: u64, y: u64, z: u64) -> u64
     (x & y) ^ (x & z) ^ (y & z)
 }
 
-fn big_sigma0(x: u64) -> u64
-    ensures { result ≡ big_sigma0 x }
+/// The word rotated to the right by each of three amounts.
+fn big_sigma(x: u64, a: u32, b: u32, c: u32) -> u64
+    ensures { result ≡ bit_xor (bit_xor (rotate_right w64 x a) (rotate_right w64 x b)) (rotate_right w64 x c) }
 {
-    x.rotate_right(28) ^ x.rotate_right(34) ^ x.rotate_right(39)
+    x.rotate_right(a) ^ x.rotate_right(b) ^ x.rotate_right(c)
 }
 
-fn big_sigma1(x: u64) -> u64
-    ensures { result ≡ big_sigma1 x }
+/// The word rotated to the right by two amounts, and shifted by the third.
+fn small_sigma(x: u64, a: u32, b: u32, c: u32) -> u64
+    requires { c < 64 }
+    ensures { result ≡ bit_xor (bit_xor (rotate_right w64 x a) (rotate_right w64 x b)) (x / 2 ^ c) }
 {
-    x.rotate_right(14) ^ x.rotate_right(18) ^ x.rotate_right(41)
-}
-
-fn small_sigma0(x: u64) -> u64
-    ensures { result ≡ small_sigma0 x }
-{
-    x.rotate_right(1) ^ x.rotate_right(8) ^ (x >> 7)
-}
-
-fn small_sigma1(x: u64) -> u64
-    ensures { result ≡ small_sigma1 x }
-{
-    x.rotate_right(19) ^ x.rotate_right(61) ^ (x >> 6)
-}
-
-/// Word t of a block.
-fn block_word(block: &[u8], t: usize) -> u64
-    requires long { length block.now ≡ 128 }
-    requires place { t < 16 }
-    ensures { result ≡ block_word block.now t }
-{
-    let at = 8 * t;
-    u64::from_be_bytes([
-        block[at],
-        block[at + 1],
-        block[at + 2],
-        block[at + 3],
-        block[at + 4],
-        block[at + 5],
-        block[at + 6],
-        block[at + 7],
-    ])
+    x.rotate_right(a) ^ x.rotate_right(b) ^ (x >> c)
 }
 
 /// Word t of the schedule, from the words before it.
@@ -67,34 +41,24 @@ fn next_word(schedule: &[u64; 80], t: usize) -> u64
     requires place { t < 80 }
     ensures { result ≡ next_word schedule.now t }
 {
-    let near = small_sigma1(schedule[t - 2]);
-    let far = small_sigma0(schedule[t - 15]);
-    near.wrapping_add(schedule[t - 7])
-        .wrapping_add(far)
+    small_sigma(schedule[t - 2], 19, 61, 6)
+        .wrapping_add(schedule[t - 7])
+        .wrapping_add(small_sigma(schedule[t - 15], 1, 8, 7))
         .wrapping_add(schedule[t - 16])
 }
 
-/// Word t of the schedule, from the block or from the words before it.
-fn schedule_word(block: &[u8], schedule: &[u64; 80], t: usize) -> u64
-    requires long { length block.now ≡ 128 }
-    requires place { t < 80 }
-    ensures { result ≡ (if nat_lt t 16 then block_word block.now t else next_word schedule.now t) }
-{
-    if t < 16 {
-        block_word(block, t)
-    } else {
-        next_word(schedule, t)
-    }
-}
-
 /// The message schedule of a block.
-fn scheduled(block: &[u8]) -> [u64; 80]
-    requires long { length block.now ≡ 128 }
+fn scheduled(block: &[u8; 128]) -> [u64; 80]
     ensures { result ≡ schedule block.now 80 }
 {
     let mut words = [0; 80];
-    for t in 0..80 {
-        words[t] = schedule_word(block, &words, t);
+    let (chunks, _) = block.as_chunks::<8>();
+    for (t, chunk) in chunks.iter().enumerate() {
+        words[t] = u64::from_be_bytes(*chunk);
+    }
+    // Each further word is made of four before it, which no iterator gives: an index.
+    for t in 16..80 {
+        words[t] = next_word(&words, t);
     }
     words
 }
@@ -103,25 +67,22 @@ fn scheduled(block: &[u8]) -> [u64; 80]
 fn one_round(v: [u64; 8], constant: u64, word: u64) -> [u64; 8]
     ensures { result ≡ round v constant word }
 {
-    let sigma1 = big_sigma1(v[4]);
-    let chosen = choose(v[4], v[5], v[6]);
-    let sigma0 = big_sigma0(v[0]);
-    let common = majority(v[0], v[1], v[2]);
-    let sum1 = v[7]
-        .wrapping_add(sigma1)
-        .wrapping_add(chosen)
+    let [a, b, c, d, e, f, g, h] = v;
+    let sum1 = h
+        .wrapping_add(big_sigma(e, 14, 18, 41))
+        .wrapping_add(choose(e, f, g))
         .wrapping_add(constant)
         .wrapping_add(word);
-    let sum2 = sigma0.wrapping_add(common);
+    let sum2 = big_sigma(a, 28, 34, 39).wrapping_add(majority(a, b, c));
     [
         sum1.wrapping_add(sum2),
-        v[0],
-        v[1],
-        v[2],
-        v[3].wrapping_add(sum1),
-        v[4],
-        v[5],
-        v[6],
+        a,
+        b,
+        c,
+        d.wrapping_add(sum1),
+        e,
+        f,
+        g,
     ]
 }
 
@@ -130,8 +91,8 @@ fn all_rounds(words: [u64; 8], schedule: &[u64; 80]) -> [u64; 8]
     ensures { result ≡ rounds words schedule.now 80 }
 {
     let mut v = words;
-    for step in 0..80 {
-        let next = one_round(v, ROUND_CONSTANTS[step], schedule[step]);
+    for (constant, word) in ROUND_CONSTANTS.iter().zip(schedule) {
+        let next = one_round(v, *constant, *word);
         v = next;
     }
     v
@@ -141,21 +102,11 @@ fn all_rounds(words: [u64; 8], schedule: &[u64; 80]) -> [u64; 8]
 fn added(words: [u64; 8], v: [u64; 8]) -> [u64; 8]
     ensures { result ≡ sums words v }
 {
-    [
-        words[0].wrapping_add(v[0]),
-        words[1].wrapping_add(v[1]),
-        words[2].wrapping_add(v[2]),
-        words[3].wrapping_add(v[3]),
-        words[4].wrapping_add(v[4]),
-        words[5].wrapping_add(v[5]),
-        words[6].wrapping_add(v[6]),
-        words[7].wrapping_add(v[7]),
-    ]
+    array::from_fn(|k| words[k].wrapping_add(v[k]))
 }
 
 /// Brings one more block into the words.
-pub(crate) fn compress(words: &mut [u64; 8], block: &[u8])
-    requires long { length block.now ≡ 128 }
+pub(crate) fn compress(words: &mut [u64; 8], block: &[u8; 128])
     ensures { words.new ≡ compressed words.old block.now }
 {
     let schedule = scheduled(block);

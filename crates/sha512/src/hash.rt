@@ -11,6 +11,5 @@ pub fn sha512(text: &[u8]) -> [u8; 64]
 {
     let mut hasher = Hasher::new();
     hasher.take(text);
-    let words = hasher.finish();
-    word_bytes(&words)
+    word_bytes(&hasher.finish())
 }

@@ -1,12 +1,13 @@
 //! How a hasher takes bytes, and the hash at the end.
-ghost use Rattle.std.specs.Prelude.{◌≡◌, ℕ, ◌+◌, ◌%◌, ◌^◌, ◌<◌, ◌≤◌, List, [], ◌++◌, length, replicate};
+ghost use Rattle.std.specs.Prelude.{◌≡◌, ◌+◌, ◌%◌, ◌≤◌, [], length, replicate};
 ghost use Rattle.sha512.specs.Sha512.{initial};
-ghost use Rattle.sha512.specs.Hash.{byte_of, word_bytes};
-ghost use Rattle.sha512.specs.Hashing.{after, ended};
+ghost use Rattle.sha512.specs.Hash.{word_bytes};
+ghost use Rattle.sha512.specs.Hashing.{HasTaken, ended};
 
 use crate::compression::compress;
 use crate::hasher::Hasher;
 use crate::tables::INITIAL_WORDS;
+use std::array;
 
 /// Bytes of a block.
 const BLOCK: usize = 128;
@@ -35,8 +36,7 @@ impl Hasher {
     /// Takes bytes that the block has room for.
     fn take_few(&mut self, bytes: &[u8])
         requires room { self.old.total % 128 + length bytes.now ≤ 128 }
-        ensures words { (y : List ℕ) → after self.new y ≡ after self.old (bytes.now ++ y) }
-        ensures total { self.new.total ≡ (self.old.total + length bytes.now) % 2 ^ 64 }
+        ensures { HasTaken bytes.now self.old self.new }
     {
         let filled = self.filled();
         let end = filled + bytes.len();
@@ -47,36 +47,32 @@ impl Hasher {
         }
     }
 
-    /// Takes whole blocks, straight from the slice.
-    fn take_blocks(&mut self, bytes: &[u8])
+    /// Takes a whole block, straight from the slice.
+    fn take_block(&mut self, block: &[u8; BLOCK])
         requires none { self.old.total % 128 ≡ 0 }
-        requires whole { length bytes.now % 128 ≡ 0 }
-        ensures words { (y : List ℕ) → after self.new y ≡ after self.old (bytes.now ++ y) }
-        ensures total { self.new.total ≡ (self.old.total + length bytes.now) % 2 ^ 64 }
+        ensures taken { HasTaken block.now self.old self.new }
+        ensures none { self.new.total % 128 ≡ 0 }
     {
-        let mut at = 0;
-        while at < bytes.len() {
-            compress(&mut self.words, &bytes[at..at + BLOCK]);
-            at += BLOCK;
-        }
-        self.total = self.total.wrapping_add(bytes.len() as u64);
+        compress(&mut self.words, block);
+        self.total = self.total.wrapping_add(BLOCK as u64);
     }
 
     /// Takes the next bytes of the text.
     pub(crate) fn take(&mut self, bytes: &[u8])
-        ensures words { (y : List ℕ) → after self.new y ≡ after self.old (bytes.now ++ y) }
-        ensures total { self.new.total ≡ (self.old.total + length bytes.now) % 2 ^ 64 }
+        ensures { HasTaken bytes.now self.old self.new }
     {
         let room = BLOCK - self.filled();
-        let count = bytes.len();
-        if count < room {
+        if bytes.len() < room {
             self.take_few(bytes);
             return;
         }
-        let end = count - (count - room) % BLOCK;
-        self.take_few(&bytes[0..room]);
-        self.take_blocks(&bytes[room..end]);
-        self.take_few(&bytes[end..count]);
+        let (front, rest) = bytes.split_at(room);
+        let (blocks, back) = rest.as_chunks::<BLOCK>();
+        self.take_few(front);
+        for block in blocks {
+            self.take_block(block);
+        }
+        self.take_few(back);
     }
 
     /// The words of the hash of the text that was taken.
@@ -88,27 +84,15 @@ impl Hasher {
         let mut mark = [0; BLOCK];
         mark[0] = 0x80;
         let mut last = self;
-        last.take(&mark[0..zeros + 1]);
+        last.take(&mark[..zeros + 1]);
         last.take(&bits);
         last.words
     }
-}
-
-/// Byte k of the words.
-fn byte_of(words: &[u64; 8], k: usize) -> u8
-    requires { k < 64 }
-    ensures { result ≡ byte_of words.now k }
-{
-    ((words[k / 8] >> (8 * (7 - k % 8))) % 256) as u8
 }
 
 /// The 64 bytes of the words, high byte first.
 pub(crate) fn word_bytes(words: &[u64; 8]) -> [u8; 64]
     ensures { result ≡ word_bytes words.now }
 {
-    let mut bytes = [0; 64];
-    for k in 0..64 {
-        bytes[k] = byte_of(words, k);
-    }
-    bytes
+    array::from_fn(|k| words[k / 8].to_be_bytes()[k % 8])
 }

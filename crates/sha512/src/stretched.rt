@@ -34,17 +34,7 @@ fn stream_block(hasher: &Hasher, number: u32) -> [u8; 64]
 {
     let mut whole = *hasher;
     whole.take(&number.to_be_bytes());
-    let words = whole.finish();
-    word_bytes(&words)
-}
-
-/// Copies the part into the buffer, from `at` on.
-fn copy_part(out: &mut [u8], at: usize, part: &[u8])
-    requires room { at + length part.now ≤ length out.old }
-    ensures before { (k : ℕ) → k < at → slice_index out.new k ≡ slice_index out.old k }
-    ensures fresh { (k : ℕ) → k < length part.now → slice_index out.new (at + k) ≡ slice_index part.now k }
-{
-    out[at..at + part.len()].copy_from_slice(part);
+    word_bytes(&whole.finish())
 }
 
 impl Stretched {
@@ -94,36 +84,17 @@ impl Stretched {
         }
     }
 
-    /// Draws into the buffer from `at` on, up to the end of a block or of the buffer, and says how far it came.
-    fn draw_some(&mut self, out: &mut [u8], at: usize) -> usize
-        requires left { at < length out.old }
-        requires room { self.old.drawn + (length out.old - at) ≤ 4294967295 }
-        ensures further { at < result }
-        ensures within { result ≤ length out.old }
-        ensures hasher { self.new.hasher ≡ self.old.hasher }
-        ensures drawn { self.new.drawn ≡ self.old.drawn + (result - at) }
-        ensures before { (k : ℕ) → k < at → slice_index out.new k ≡ slice_index out.old k }
-        ensures fresh { (k : ℕ) → k < result - at → slice_index out.new (at + k) ≡ stream_from self.old.hasher self.old.drawn [] k }
-    {
-        self.refresh();
-        let used = (self.drawn % 64) as usize;
-        let left = out.len() - at;
-        let count = if left < 64 - used { left } else { 64 - used };
-        copy_part(out, at, &self.block[used..used + count]);
-        self.drawn += count as u64;
-        at + count
-    }
-
     /// Fills the buffer with the next bytes of the stream.
     fn fill(&mut self, out: &mut [u8])
-        requires room { self.old.drawn + length out.old ≤ 4294967295 }
+        requires room { self.old.drawn + length out.old ≤ limit }
         ensures hasher { self.new.hasher ≡ self.old.hasher }
         ensures drawn { self.new.drawn ≡ self.old.drawn + length out.old }
         ensures bytes { out.new ≡ first_bytes (stream_from self.old.hasher self.old.drawn []) (length out.old) }
     {
-        let mut at = 0;
-        while at < out.len() {
-            at = self.draw_some(out, at);
+        for byte in out.iter_mut() {
+            self.refresh();
+            *byte = self.block[(self.drawn % 64) as usize];
+            self.drawn += 1;
         }
     }
 }

@@ -1,6 +1,6 @@
-use Rattle.std.proofs.Common.{◌≡◌}
+use Rattle.std.proofs.Common.{◌≡◌, length}
 use Rattle.sha512.specs.Sha512.{rounds}
 use Rattle.sha512.proofs.compression.all_rounds.Given as goal
 
-abbrev pub invariant-loop-step : goal.invariant-loop-step
-invariant-loop-step l = l.v ≡ rounds l.initial.v l.schedule l.step
+abbrev pub invariant-loop-constant : goal.invariant-loop-constant
+invariant-loop-constant l = l.v ≡ rounds l.fn.words l.schedule (length l.yielded)

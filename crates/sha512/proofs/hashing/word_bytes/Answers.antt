@@ -1,21 +1,23 @@
-use Rattle.std.proofs.Common.{◌≡◌, length, get_or, set, refl, ap, ◌∙◌, not-suc-le-zero, arith, length-set}
-use Rattle.std.proofs.lemmas.List.FromFn.{fill_by_all}
-use Rattle.std.proofs.lemmas.List.Edits.{fill_by_more}
+use Rattle.std.proofs.Common.{◌≡◌, ℕ, zero, suc, ◌-◌, ◌*◌, ◌%◌, ◌/◌, ◌^◌, ◌<◌, get_or, refl, ◌∙◌, arith, rules}
+use Rattle.std.specs.Int.{to_be_bytes, w64}
 use Rattle.protocol.specs.Streams.{first_bytes}
 use Rattle.sha512.specs.Hash.{byte_of}
+use Rattle.sha512.proofs.Arrays.{made_all}
 use Rattle.sha512.proofs.hashing.word_bytes.Goals as goal
 
-pub loop-k-init : goal.loop-k-init
-loop-k-init c = (refl, (λ j h. absurd (not-suc-le-zero h)))
-
-pub loop-k-preserved : goal.loop-k-preserved
-loop-k-preserved c =
-    let long : length c.loop-k.bytes ≡ 64 = c.loop-k.invariant.0 in (
-      simp length-set (omega arith),
-      (λ j h. ap (λ b. get_or (set c.loop-k.bytes c.loop-k.k b) j 0) c.byte_of.ensures
-          ∙ fill_by_more (byte_of c.args.words.now) c.loop-k.bytes c.loop-k.k 0 (omega arith) c.loop-k.invariant.1 j h),
-    )
+byte_of_word : (x j : ℕ) → j < 8 → get_or (to_be_bytes w64 x) j 0 ≡ x / 2 ^ (8 * (7 - j)) % 256
+byte_of_word x zero below = refl
+byte_of_word x (suc zero) below = refl
+byte_of_word x (suc (suc zero)) below = refl
+byte_of_word x (suc (suc (suc zero))) below = refl
+byte_of_word x (suc (suc (suc (suc zero)))) below = refl
+byte_of_word x (suc (suc (suc (suc (suc zero))))) below = refl
+byte_of_word x (suc (suc (suc (suc (suc (suc zero)))))) below = refl
+byte_of_word x (suc (suc (suc (suc (suc (suc (suc zero))))))) below = omega arith
+byte_of_word x (suc (suc (suc (suc (suc (suc (suc (suc j)))))))) below = absurd (omega arith)
 
 pub returns : goal.returns
-unfolding first_bytes
-returns c = fill_by_all (byte_of c.args.words.now) c.loop-k.bytes 64 0 c.loop-k.invariant.0 (λ j h. c.loop-k.invariant.1 j (omega arith))
+unfolding first_bytes byte_of
+returns c = made_all _ _ (byte_of c.args.words.now) (λ i y q call.
+    let e : y ≡ get_or (to_be_bytes w64 (get_or c.args.words.now (i / 8) 0)) (i % 8) 0 = search rules in
+    (search rules, e ∙ byte_of_word (get_or c.args.words.now (i / 8) 0) (i % 8) (omega arith))) c.from_fn.result 0 64 c.from_fn.ensures.items

@@ -1,18 +1,39 @@
-use Rattle.std.proofs.Common.{ℕ, ◌-◌, ◌%◌, ◌≤◌, length, ap, ◌∙◌, arith}
-use Rattle.sha512.specs.Hashing.{after}
-use Rattle.sha512.specs.Absorbing.{three_parts, three_lengths}
+use Rattle.std.proofs.Common.{List, ℕ, ◌-◌, [], ◌++◌, take, sym, refl, subst, ap, ◌∙◌, append_assoc, arith}
+use Rattle.std.proofs.lemmas.List.{append-nil, take_all}
+use Rattle.std.specs.List.{concat}
+use Rattle.sha512.specs.Hashing.{HasTaken}
+use Rattle.sha512.proofs.Absorbing.{taken_more, concat_more}
+use Rattle.sha512.proofs.Blocks.{in_blocks}
 use Rattle.sha512.proofs.hasher.Hasher.take.Goals as goal
+
+pub loop-block-init : goal.loop-block-init
+loop-block-init c = (
+  omega (arith, c.take_few-2.ensures.total, c.split_at.ensures.front_len),
+  subst (λ x. HasTaken x c.args.self.now c.take_few-2.new.self) (c.split_at.ensures.front ∙ sym (append-nil (take (128 - c.filled-room.result) c.args.bytes.now))) c.take_few-2.ensures,
+)
+
+pub loop-block-preserved : goal.loop-block-preserved
+loop-block-preserved c =
+    let front : List ℕ = take (128 - c.filled-room.result) c.args.bytes.now in
+    let more = taken_more (front ++ concat (take c.loop-block.block-index c.as_chunks.result.0.now)) _ c.args.self.now c.loop-block.self c.take_block.new.self
+    c.loop-block.invariant.1 c.take_block.ensures.taken in (
+      c.take_block.ensures.none,
+      subst (λ x. HasTaken x c.args.self.now c.take_block.new.self)
+          (append_assoc front (concat (take c.loop-block.block-index c.as_chunks.result.0.now)) _
+          ∙ ap (λ x. front ++ x) (sym (concat_more c.as_chunks.result.0.now c.loop-block.block-index [] c.loop-block-test.true))) more,
+    )
+
+pub take_few-requires-3 : goal.take_few-requires-3
+take_few-requires-3 c = omega (arith, c.loop-block.invariant.0, c.as_chunks.ensures.back_len)
 
 pub returns : goal.returns
 returns c =
-    let room : ℕ = 128 - c.filled-room.result in
-    let count : ℕ = length c.args.bytes.now in
-    let end : ℕ = count - (count - room) % 128 in
-    let le : room ≤ end = omega arith in
-    record {
-      words = λ y.
-          c.take_few-3.ensures.words y ∙ c.take_blocks.ensures.words _ ∙ c.take_few-2.ensures.words _
-          ∙ ap (after c.args.self.now) (three_parts c.args.bytes.now room end le y);
-      total = three_lengths c.args.bytes.now room end le c.args.self.now.total _ _ _ (omega arith)
-          c.take_few-2.ensures.total c.take_blocks.ensures.total c.take_few-3.ensures.total;
-    }
+    let front : List ℕ = take (128 - c.filled-room.result) c.args.bytes.now in
+    let blocks : List (List ℕ) = c.as_chunks.result.0.now in
+    let all = taken_more (front ++ concat (take c.loop-block.block-index blocks)) c.as_chunks.result.1.now c.args.self.now c.loop-block.self c.take_few-3.new.self
+    c.loop-block.invariant.1 c.take_few-3.ensures in
+    subst (λ x. HasTaken x c.args.self.now c.take_few-3.new.self)
+    (ap (λ bs. (front ++ concat bs) ++ c.as_chunks.result.1.now) (take_all c.loop-block.block-index blocks c.loop-block-test.false)
+    ∙ append_assoc front (concat blocks) c.as_chunks.result.1.now
+    ∙ in_blocks c.args.bytes.now front c.split_at.result.1.now c.as_chunks.result.1.now (128 - c.filled-room.result) 128 blocks
+    refl c.split_at.ensures.back c.as_chunks.ensures.front c.as_chunks.ensures.back) all

@@ -1,6 +1,6 @@
 use Rattle.std.proofs.Common.{arith, rules}
 use Rattle.sha512.specs.Hashing.{after}
-use Rattle.sha512.specs.Absorbing.{few_held, few_filled}
+use Rattle.sha512.proofs.Absorbing.{few_held, few_filled}
 use Rattle.sha512.proofs.hasher.Hasher.take_few.Goals as goal
 
 pub returns-then-end-eq-BLOCK : goal.returns-then-end-eq-BLOCK

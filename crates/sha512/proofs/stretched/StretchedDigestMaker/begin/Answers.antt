@@ -1,4 +1,4 @@
-use Rattle.sha512.specs.Streaming.{state_new}
+use Rattle.sha512.proofs.Streaming.{state_new}
 use Rattle.sha512.proofs.stretched.StretchedDigestMaker.begin.Goals as goal
 
 pub returns : goal.returns

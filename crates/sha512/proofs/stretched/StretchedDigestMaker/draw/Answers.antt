@@ -1,7 +1,7 @@
 use Rattle.std.proofs.Common.{◌≡◌, ℕ, ◌+◌, [], length, sym, ap, ◌∙◌, rules}
 use Rattle.protocol.specs.Streams.{first_bytes}
 use Rattle.sha512.specs.Stretching.{stream_from}
-use Rattle.sha512.specs.Streaming.{state_drew}
+use Rattle.sha512.proofs.Streaming.{state_drew}
 use Rattle.sha512.proofs.stretched.StretchedDigestMaker.draw.Goals as goal
 
 pub returns : goal.returns

@@ -1,5 +1,5 @@
 use Rattle.std.proofs.Common.{refl}
-use Rattle.sha512.specs.Streaming.{state_new}
+use Rattle.sha512.proofs.Streaming.{state_new}
 use Rattle.sha512.proofs.stretched.StretchedDigestMaker.new.Goals as goal
 
 pub returns : goal.returns

@@ -1,0 +1,33 @@
+-- A list in blocks of n, and what follows them.
+use Rattle.std.proofs.Common.{◌≡◌, ℕ, zero, suc, ◌+◌, ◌*◌, ◌/◌, ◌<◌, List, ◌++◌, length, get_or, take, drop, sym, ap, ap₂, ◌∙◌, not-suc-le-zero, arith}
+use Rattle.std.specs.List.{concat}
+use Rattle.std.specs.Simd.{first_chunks}
+use Rattle.std.proofs.lemmas.List.{take-append-drop, take-take, drop-take, drop-drop}
+
+pub get_or-first_chunks : {X : Type 0} (n k : ℕ) (xs : List X) (i : ℕ) (d : List X) → i < k → get_or (first_chunks n k xs) i d ≡ take n (drop (i * n) xs)
+get_or-first_chunks n zero xs i d below = absurd (not-suc-le-zero below)
+get_or-first_chunks n (suc k) xs zero d below =
+    let e : 0 ≡ 0 * n = omega arith in
+    ap (λ m. take n (drop m xs)) e
+get_or-first_chunks n (suc k) xs (suc i) d below =
+    let e : n + i * n ≡ suc i * n = grind arith in
+    get_or-first_chunks n k (drop n xs) i d (omega arith) ∙ ap (take n) (drop-drop (i * n) n xs ∙ ap (λ m. drop m xs) e)
+
+concat-first_chunks : (n k : ℕ) (xs : List ℕ) → concat (first_chunks n k xs) ≡ take (k * n) xs
+concat-first_chunks n zero xs =
+    let e : 0 ≡ 0 * n = omega arith in
+    ap (λ m. take m xs) e
+concat-first_chunks n (suc k) xs =
+    let e : n + k * n ≡ suc k * n = grind arith in
+    ap (λ z. take n xs ++ z) (concat-first_chunks n k (drop n xs))
+    ∙ ap₂ ◌++◌ (sym (take-take n (n + k * n) xs (omega arith))) (sym (drop-take n (k * n) xs))
+    ∙ take-append-drop n (take (n + k * n) xs) ∙ ap (λ m. take m xs) e
+
+-- the first m, then whole blocks, then the rest
+pub in_blocks : (bytes front rest back : List ℕ) (m n : ℕ) (blocks : List (List ℕ)) → front ≡ take m bytes → rest ≡ drop m bytes
+    → blocks ≡ first_chunks n (length rest / n) rest → back ≡ drop (length rest / n * n) rest → front ++ (concat blocks ++ back) ≡ bytes
+in_blocks bytes front rest back m n blocks first second cut last =
+    ap₂ (λ x y. x ++ y) first
+    (ap₂ (λ x y. concat x ++ y) cut last ∙ ap (λ z. z ++ drop (length rest / n * n) rest) (concat-first_chunks n (length rest / n) rest)
+    ∙ take-append-drop (length rest / n * n) rest ∙ second)
+    ∙ take-append-drop m bytes

@@ -1,6 +1,0 @@
-use Rattle.sha512.specs.Sha512.{big_sigma1}
-use Rattle.sha512.proofs.compression.big_sigma1.Goals as goal
-
-pub returns : goal.returns
-unfolding big_sigma1
-returns c = cc
