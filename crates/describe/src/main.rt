@@ -32,9 +32,11 @@ impl fmt::Display for Value<'_> {
     fn fmt<W: fmt::Write>(&self, f: &mut fmt::Formatter<W>) -> fmt::Result {
         match *self {
             Value::Number(number) => write!(f, "{number}"),
-            // what is not shown is two dots
-            Value::Bytes(bytes) if bytes.len() > SHOWN => write!(f, "{}..", Hex(&bytes[..SHOWN])),
-            Value::Bytes(bytes) => write!(f, "{}", Hex(bytes)),
+            Value::Bytes(bytes) => match bytes.split_at_checked(SHOWN) {
+                // what is not shown is two dots
+                Some((shown, [_, ..])) => write!(f, "{}..", Hex(shown)),
+                _ => write!(f, "{}", Hex(bytes)),
+            },
         }
     }
 }
