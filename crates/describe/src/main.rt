@@ -5,9 +5,8 @@ use hexadecimal::writing::Hex;
 use protocol::field::Field;
 use record::header::read_record;
 use record::view::Record;
-use std::fmt;
 use std::io::Read;
-use std::{env, io};
+use std::{env, fmt, io};
 
 /// How many bytes of a field are shown.
 const SHOWN: usize = 32;

@@ -9,17 +9,13 @@ use keccak::shake128::shake128;
 use keccak::shake256::Shake256;
 use sha512::stretched::Stretched;
 use std::alloc::{AllocError, Global};
-use std::mem;
+use std::{iter, mem};
 
 /// A text of so many bytes: byte i is 7·i + 3 mod 256.
 fn text(heap: Global, n: usize) -> Result<Vec<u8>, AllocError> {
-    let mut bytes = Vec::new(heap);
-    let mut b = 3u8;
-    for _ in 0..n {
-        bytes.push(b)?;
-        b = b.wrapping_add(7);
-    }
-    Ok(bytes)
+    iter::successors(Some(3u8), |b| Some(b.wrapping_add(7)))
+        .take(n)
+        .collect(heap)
 }
 
 /// The first bytes of the stream of a text.
