@@ -1,10 +1,11 @@
 //! Prints the digests of standard input by both kinds: `shake256 HEX` and `sha512 HEX`.
 #![tactic(auto)]
 
-use digest::maker::DigestMaker;
+use digest::maker::{DigestMaker, LIMIT};
+use hexadecimal::writing::Hex;
 use keccak::shake256::Shake256;
+use protocol::fault::Fault;
 use sha512::stretched::Stretched;
-use std::alloc::Global;
 use std::env;
 use std::io::Read;
 
@@ -26,10 +27,8 @@ fn asked(rt: &HostRuntime) -> anyhow::Result<Option<usize>> {
     if args.next().is_some() {
         return Ok(None);
     }
-    match word.as_str().parse::<usize>() {
-        Ok(count) if count >= 1 && count <= MOST => Ok(Some(count)),
-        _ => Ok(None),
-    }
+    let count = word.as_str().parse::<usize>().ok();
+    Ok(count.filter(|count| (1..=MOST).contains(count)))
 }
 
 /// The line of one kind: its name, and the front of its stream in hexadecimal.
@@ -40,33 +39,36 @@ fn show<D: DigestMaker>(
     count: usize,
 ) -> anyhow::Result<()> {
     let mut out = vec![in rt.alloc(); 0u8; count]?;
-    if let Err(fault) = maker.draw(out.as_mut_slice()) {
-        println!(rt; "{fault}")?;
-        return Ok(());
+    match maker.draw(out.as_mut_slice()) {
+        Ok(()) => println!(rt; "{name} {}", Hex(out.as_slice()))?,
+        Err(fault) => println!(rt; "{fault}")?,
     }
-    let mut text = String::new(rt.alloc());
-    for b in out.as_slice() {
-        text.push_str(format!(in rt.alloc(); "{b:02x}")?.as_str())?;
-    }
-    println!(rt; "{name} {text}")?;
     Ok(())
 }
 
-/// Has both makers take standard input; false where it is past their limit.
-fn take_input(rt: &HostRuntime, shake: &mut Shake256, sha: &mut Stretched) -> anyhow::Result<bool> {
+/// Has both makers take the bytes.
+fn take_both(shake: &mut Shake256, sha: &mut Stretched, bytes: &[u8]) -> Result<(), Fault> {
+    shake.take(bytes)?;
+    sha.take(bytes)
+}
+
+/// Has both makers take standard input: what they answer, beside what reading it answers.
+fn take_input(
+    rt: &HostRuntime,
+    shake: &mut Shake256,
+    sha: &mut Stretched,
+) -> anyhow::Result<Result<(), Fault>> {
     let mut piece = vec![in rt.alloc(); 0u8; PIECE]?;
     let mut input = rt.stdin();
+    let mut taken = Ok(());
     for _ in 0..u64::MAX {
         let n = input.read(piece.as_mut_slice())?;
-        if n == 0 {
+        taken = take_both(shake, sha, &piece.as_slice()[0..n]);
+        if n == 0 || taken.is_err() {
             break;
         }
-        let bytes = &piece.as_slice()[0..n];
-        if shake.take(bytes).is_err() || sha.take(bytes).is_err() {
-            return Ok(false);
-        }
     }
-    Ok(true)
+    Ok(taken)
 }
 
 fn main(rt: HostRuntime) -> anyhow::Result<()> {
@@ -78,8 +80,8 @@ fn main(rt: HostRuntime) -> anyhow::Result<()> {
     };
     let mut shake = Shake256::new();
     let mut sha = Stretched::new();
-    if !take_input(&rt, &mut shake, &mut sha)? {
-        println!(rt; "too long: a digest takes at most 4294967295 bytes")?;
+    if take_input(&rt, &mut shake, &mut sha)?.is_err() {
+        println!(rt; "too long: a digest takes at most {LIMIT} bytes")?;
         return Ok(());
     }
     show(&rt, "shake256", &mut shake, count)?;

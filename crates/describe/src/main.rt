@@ -1,50 +1,52 @@
 //! Takes the record on standard input apart: a line for each field, `OFFSET LENGTH NAME VALUE`, or the refusal.
 #![tactic(auto)]
 
+use hexadecimal::writing::Hex;
 use protocol::field::Field;
-use protocol::header::Header;
 use record::header::read_record;
-use record::view::{Part, Record};
-use std::alloc::{AllocError, Global};
+use record::view::Record;
 use std::io::Read;
-use std::{env, io};
+use std::{env, fmt, io};
 
 /// How many bytes of a field are shown.
 const SHOWN: usize = 32;
 
-/// The bytes in hexadecimal; what is not shown of them is two dots.
-fn hex(heap: Global, bytes: &[u8]) -> Result<String, AllocError> {
-    let mut text = String::new(heap);
-    for b in bytes.iter().take(SHOWN) {
-        text.push_str(format!(in heap; "{b:02x}")?.as_str())?;
-    }
-    if bytes.len() > SHOWN {
-        text.push_str("..")?;
-    }
-    Ok(text)
+/// What is printed of a field: a number of the header in decimal, and any other field in hexadecimal.
+#[derive(Clone, Copy)]
+enum Value<'a> {
+    Number(u16),
+    Bytes(&'a [u8]),
 }
 
-/// A number of the header in decimal, and any other field in hexadecimal.
-fn value(heap: Global, header: Header, field: Field, part: Part) -> Result<String, AllocError> {
-    match header.number(field) {
-        Some(number) => format!(in heap; "{number}"),
-        None => hex(heap, part.bytes),
-    }
-}
-
-/// The lines of a record, or the line of its refusal.
-fn describe(rt: &HostRuntime, bytes: &[u8]) -> io::Result<()> {
-    let header = match read_record(bytes) {
-        Ok(header) => header,
-        Err(fault) => return println!(rt; "{fault}"),
-    };
-    let record = Record::over(bytes, header);
-    for index in 0..header.field_count() {
-        if let Some(field) = header.field(index) {
-            let part = record.part(field);
-            let value = value(rt.alloc(), header, field, part)?;
-            println!(rt; "{} {} {field} {value}", part.offset, part.bytes.len())?;
+impl Value<'_> {
+    fn of<'a>(record: &Record<'a>, field: Field) -> Value<'a> {
+        match record.header.number(field) {
+            Some(number) => Value::Number(number),
+            None => Value::Bytes(record.part(field).bytes),
         }
+    }
+}
+
+impl fmt::Display for Value<'_> {
+    fn fmt<W: fmt::Write>(&self, f: &mut fmt::Formatter<W>) -> fmt::Result {
+        match *self {
+            Value::Number(number) => write!(f, "{number}"),
+            Value::Bytes(bytes) => match bytes.split_at_checked(SHOWN) {
+                // what is not shown is two dots
+                Some((shown, [_, ..])) => write!(f, "{}..", Hex(shown)),
+                _ => write!(f, "{}", Hex(bytes)),
+            },
+        }
+    }
+}
+
+/// A line for each field of a record.
+fn describe(rt: &HostRuntime, record: Record) -> io::Result<()> {
+    let header = record.header;
+    for field in (0..header.field_count()).filter_map(|index| header.field(index)) {
+        let part = record.part(field);
+        let value = Value::of(&record, field);
+        println!(rt; "{} {} {field} {value}", part.offset, part.bytes.len())?;
     }
     Ok(())
 }
@@ -55,5 +57,9 @@ fn main(rt: HostRuntime) -> io::Result<()> {
     }
     let mut input = Vec::new(rt.alloc());
     rt.stdin().read_to_end(&mut input)?;
-    describe(&rt, input.as_slice())
+    let bytes = input.as_slice();
+    match read_record(bytes) {
+        Ok(header) => describe(&rt, Record::over(bytes, header)),
+        Err(fault) => println!(rt; "{fault}"),
+    }
 }

@@ -3,44 +3,52 @@
 //! the way there: makers are made that count as many, which takes no time, and the lines are the same.
 #![tactic(auto)]
 
+ghost use Rattle.std.specs.Prelude.{◌<◌, length};
+
+use anyhow::Error;
 use digest::maker::{DigestMaker, LIMIT};
 use keccak::shake256::Shake256;
 use protocol::fault::Fault;
 use sha512::stretched::Stretched;
-use std::env;
+use std::{env, fmt};
 
-/// A refusal's number, and 0 for an accepted call.
-fn number(answer: Result<(), Fault>) -> u8 {
-    match answer {
-        Ok(()) => 0,
-        Err(fault) => fault.number(),
+/// So many bytes are taken, and drawn, that five more are within the limit and six are not.
+const EDGE: u64 = LIMIT - 5;
+
+/// What a call answered: printed as the number of the refusal, and 0 for an accepted call.
+#[derive(Clone, Copy)]
+struct Answer(Result<(), Fault>);
+
+impl fmt::Display for Answer {
+    fn fmt<W: fmt::Write>(&self, f: &mut fmt::Formatter<W>) -> fmt::Result {
+        match self.0 {
+            Ok(()) => f.write_str("0"),
+            Err(fault) => write!(f, "{}", fault.number()),
+        }
     }
 }
 
-/// Has the maker take pieces until fewer than six bytes more are within the limit.
-fn take_to_the_edge<D: DigestMaker>(maker: &mut D, piece: &[u8]) {
-    for _ in 0..1000 {
-        let left = LIMIT.saturating_sub(maker.bytes_taken()).saturating_sub(5);
-        let n = left.min(piece.len() as u64) as usize;
-        let _ = maker.take(&piece[0..n]);
+/// Has a maker take, or give, pieces that have as many bytes together as there are up to the edge.
+fn to_the_edge<F: FnMut(&mut [u8]) -> Result<(), Fault>>(
+    piece: &mut [u8],
+    mut step: F,
+) -> Result<(), Fault>
+    requires some { 0 < length piece.old }
+    requires callable { F.IsAlwaysCallable step }
+{
+    let size = piece.len() as u64;
+    for _ in 0..EDGE / size {
+        step(piece)?;
     }
-}
-
-/// Has the maker give pieces until fewer than six bytes more are within the limit.
-fn draw_to_the_edge<D: DigestMaker>(maker: &mut D, piece: &mut [u8]) {
-    for _ in 0..1000 {
-        let left = LIMIT.saturating_sub(maker.bytes_drawn()).saturating_sub(5);
-        let n = left.min(piece.len() as u64) as usize;
-        let _ = maker.draw(&mut piece[0..n]);
-    }
+    step(&mut piece[..(EDGE % size) as usize])
 }
 
 /// Takes of six, five, no and one byte at the edge.
 fn show_takes<D: DigestMaker>(rt: &HostRuntime, name: &str, maker: &mut D) -> anyhow::Result<()> {
-    let past = number(maker.take(&[9; 6]));
-    let edge = number(maker.take(&[9; 5]));
-    let none = number(maker.take(&[]));
-    let one = number(maker.take(&[9]));
+    let past = Answer(maker.take(&[9; 6]));
+    let edge = Answer(maker.take(&[9; 5]));
+    let none = Answer(maker.take(&[]));
+    let one = Answer(maker.take(&[9]));
     println!(rt;
         "{name} take {past} {edge} {none} {one} {}",
         maker.bytes_taken()
@@ -51,12 +59,12 @@ fn show_takes<D: DigestMaker>(rt: &HostRuntime, name: &str, maker: &mut D) -> an
 /// Draws of six, five, no and one byte at the edge, and whether the refused one left its buffer alone.
 fn show_draws<D: DigestMaker>(rt: &HostRuntime, name: &str, maker: &mut D) -> anyhow::Result<()> {
     let mut six = [9; 6];
-    let past = number(maker.draw(&mut six));
+    let past = Answer(maker.draw(&mut six));
     let alone = six == [9; 6];
     let mut five = [9; 5];
-    let edge = number(maker.draw(&mut five));
-    let none = number(maker.draw(&mut []));
-    let one = number(maker.draw(&mut [0]));
+    let edge = Answer(maker.draw(&mut five));
+    let none = Answer(maker.draw(&mut []));
+    let one = Answer(maker.draw(&mut [0]));
     println!(rt;
         "{name} draw {past} {alone} {edge} {none} {one} {}",
         maker.bytes_drawn()
@@ -66,7 +74,7 @@ fn show_draws<D: DigestMaker>(rt: &HostRuntime, name: &str, maker: &mut D) -> an
 
 /// A take of no bytes after the draws, and a new beginning.
 fn show_turn<D: DigestMaker>(rt: &HostRuntime, name: &str, maker: &mut D) -> anyhow::Result<()> {
-    let turn = number(maker.take(&[]));
+    let turn = Answer(maker.take(&[]));
     let taken = maker.bytes_taken();
     maker.begin();
     println!(rt;
@@ -82,10 +90,12 @@ fn show<D: DigestMaker>(
     name: &str,
     maker: &mut D,
     piece: &mut [u8],
-) -> anyhow::Result<()> {
-    take_to_the_edge(maker, piece);
+) -> anyhow::Result<()>
+    requires { 0 < length piece.old }
+{
+    to_the_edge(piece, |part| maker.take(part)).map_err(Error::msg)?;
     show_takes(rt, name, maker)?;
-    draw_to_the_edge(maker, piece);
+    to_the_edge(piece, |part| maker.draw(part)).map_err(Error::msg)?;
     show_draws(rt, name, maker)?;
     show_turn(rt, name, maker)
 }
@@ -104,12 +114,11 @@ fn show_numbers<D: DigestMaker>(
 
 /// Both kinds of maker, made to count what they would after as many bytes.
 fn show_by_numbers(rt: &HostRuntime) -> anyhow::Result<()> {
-    let edge = LIMIT - 5;
-    let mut taking = Shake256::with_counts(edge, 0).unwrap();
-    let mut drawing = Shake256::with_counts(LIMIT, edge).unwrap();
+    let mut taking = Shake256::with_counts(EDGE, 0).unwrap();
+    let mut drawing = Shake256::with_counts(LIMIT, EDGE).unwrap();
     show_numbers(rt, "shake256", &mut taking, &mut drawing)?;
-    let mut taking = Stretched::with_counts(edge, 0).unwrap();
-    let mut drawing = Stretched::with_counts(LIMIT, edge).unwrap();
+    let mut taking = Stretched::with_counts(EDGE, 0).unwrap();
+    let mut drawing = Stretched::with_counts(LIMIT, EDGE).unwrap();
     show_numbers(rt, "sha512", &mut taking, &mut drawing)
 }
 
@@ -118,8 +127,6 @@ fn main(rt: HostRuntime) -> anyhow::Result<()> {
         return show_by_numbers(&rt);
     }
     let mut piece = vec![in rt.alloc(); 0u8; 16_777_216]?;
-    let mut shake = Shake256::new();
-    show(&rt, "shake256", &mut shake, piece.as_mut_slice())?;
-    let mut sha = Stretched::new();
-    show(&rt, "sha512", &mut sha, piece.as_mut_slice())
+    show(&rt, "shake256", &mut Shake256::new(), piece.as_mut_slice())?;
+    show(&rt, "sha512", &mut Stretched::new(), piece.as_mut_slice())
 }

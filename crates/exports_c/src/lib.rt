@@ -10,13 +10,16 @@ ghost use Rattle.sha512.specs.Stretched.{stretched};
 ghost use Rattle.lattice.specs.Lines.{at, row_entry};
 ghost use Rattle.exports.specs.Sizes.{fits};
 
+use keccak::shake256::Shake256;
+use sha512::stretched::Stretched;
+
 /// Fills the buffer with the front of SHAKE256 of the text; false, and the buffer as it was, where one of them is past the limit.
 #[unsafe(no_mangle)]
 pub extern "C" fn zaghmikhe_shake256(text: &[u8], out: &mut [u8]) -> bool
     ensures answer { result ≡ is_ok (digests (length text.now) (length out.old)) }
     ensures out { MatchBool result (out.new ≡ drawn shake256 text.now (length out.old)) (out.new ≡ out.old) }
 {
-    exports::zaghmikhe_shake256(text, out)
+    exports::digest_into::<Shake256>(text, out)
 }
 
 /// The same by stretched SHA-512.
@@ -25,7 +28,7 @@ pub extern "C" fn zaghmikhe_sha512(text: &[u8], out: &mut [u8]) -> bool
     ensures answer { result ≡ is_ok (digests (length text.now) (length out.old)) }
     ensures out { MatchBool result (out.new ≡ drawn stretched text.now (length out.old)) (out.new ≡ out.old) }
 {
-    exports::zaghmikhe_sha512(text, out)
+    exports::digest_into::<Stretched>(text, out)
 }
 
 /// A row of A·S + E mod 32768, of the row of A, S by columns and the row of E; false, and the buffer as it was, where the sizes do not

@@ -1,8 +1,9 @@
 //! Bytes, read from hexadecimal text.
-ghost use Rattle.std.specs.Prelude.{◌≡◌, ◌<◌, ◌⊎◌, length, IfSome, Some, None, MatchResult, slice_index};
+ghost use Rattle.std.specs.Prelude.{◌≡◌, ◌<◌, ◌⊎◌, IfSome, Some, None, MatchResult};
+ghost use Rattle.hexadecimal.specs.declared.reading.DecodeError.TheVariants.{NoMemory};
 ghost use Rattle.hexadecimal.specs.Hex.{value, bytes_of, Refused, error_line};
 
-use std::alloc::Global;
+use std::alloc::{AllocFailed, Global};
 use std::error::Error;
 use std::fmt;
 
@@ -28,6 +29,14 @@ impl fmt::Display for DecodeError {
 
 impl Error for DecodeError {}
 
+impl From<AllocFailed<u8>> for DecodeError {
+    ghost from_gives = { λ _ e. e ≡ NoMemory };
+
+    fn from(_failed: AllocFailed<u8>) -> DecodeError {
+        DecodeError::NoMemory
+    }
+}
+
 /// What a character stands for, if it is a digit.
 fn value(c: u8) -> Option<u8>
     ensures value { result ≡ value c }
@@ -41,14 +50,11 @@ fn value(c: u8) -> Option<u8>
     }
 }
 
-fn value_at(text: &str, at: usize) -> Result<u8, DecodeError>
-    requires { at < length text.now }
-    ensures { MatchResult result (λ v. (value (slice_index text.now at) ≡ Some v) × (v < 16)) (λ e. (value (slice_index text.now at) ≡ None) × (e ≡ DecodeError.NotADigit at)) }
+/// The same of the character at a place of the text, which the error names.
+fn value_at(c: u8, at: usize) -> Result<u8, DecodeError>
+    ensures { MatchResult result (λ v. (value c ≡ Some v) × (v < 16)) (λ e. (value c ≡ None) × (e ≡ DecodeError.NotADigit at)) }
 {
-    match value(text.as_bytes()[at]) {
-        Some(v) => Ok(v),
-        None => Err(DecodeError::NotADigit { at }),
-    }
+    value(c).ok_or(DecodeError::NotADigit { at })
 }
 
 /// The bytes that a text writes.
@@ -56,16 +62,17 @@ pub fn decode(heap: Global, text: &str) -> Result<Vec<u8>, DecodeError>
     ensures { MatchResult result (λ v. bytes_of text.now ≡ Some v.items) (λ e. (e ≡ DecodeError.NoMemory) ⊎ Refused text.now e) }
 {
     let mut bytes = Vec::new(heap);
-    for k in 0..text.len() / 2 {
-        let high = value_at(text, 2 * k)?;
-        let low = value_at(text, 2 * k + 1)?;
-        if bytes.push(16 * high + low).is_err() {
-            return Err(DecodeError::NoMemory);
+    let (pairs, rest) = text.as_bytes().as_chunks::<2>();
+    for (k, &[high, low]) in pairs.iter().enumerate() {
+        let high = value_at(high, 2 * k)?;
+        let low = value_at(low, 2 * k + 1)?;
+        bytes.push(16 * high + low)?;
+    }
+    match *rest {
+        [] => Ok(bytes),
+        [last, ..] => {
+            value_at(last, text.len() - 1)?;
+            Err(DecodeError::OddLength)
         }
     }
-    if text.len() % 2 == 1 {
-        value_at(text, text.len() - 1)?;
-        return Err(DecodeError::OddLength);
-    }
-    Ok(bytes)
 }
