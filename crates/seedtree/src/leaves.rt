@@ -21,8 +21,6 @@ impl Leaves<'_> {
         requires { j < parties (parameters self.of.header) }
         ensures { result ≡ seed_in self.entry.nodes.now (parties (parameters self.entry.of.header) + j) }
     {
-        let mut seed = [0; 32];
-        load(self.nodes, self.of.header.parties() + j, &mut seed);
-        seed
+        load(self.nodes, self.of.header.parties() + j)
     }
 }

@@ -23,9 +23,8 @@ fn draw_children<D: DigestMaker>(
     repetition: Repetition<'_>,
     node: u16,
     seed: &[u8; 32],
-    both: &mut [u8; 64],
-)
-    ensures { let r = repetition.entry in both.new ≡ drawn D.DigestMaker.function (text3 (short_bytes r.salt.now) r.number node seed.now) 64 }
+) -> [u8; 64]
+    ensures { let r = repetition.entry in result ≡ drawn D.DigestMaker.function (text3 (short_bytes r.salt.now) r.number node seed.now) 64 }
 {
     let Repetition {
         header: _,
@@ -34,7 +33,9 @@ fn draw_children<D: DigestMaker>(
     } = repetition;
     let [low, high] = node.to_le_bytes();
     take_text(maker, 3, salt.as_slice(), &[number, low, high], seed);
-    maker.draw(both).unwrap();
+    let mut both = [0; 64];
+    maker.draw(&mut both).unwrap();
+    both
 }
 
 /// Writes the seeds of a node's children.
@@ -43,10 +44,8 @@ fn split<D: DigestMaker>(maker: &mut D, repetition: Repetition<'_>, node: usize,
     requires few { node < 65536 }
     ensures { let r = repetition.entry in Split D.DigestMaker.function (short_bytes r.salt.now) r.number node nodes.old nodes.new }
 {
-    let mut seed = [0; 32];
-    let mut both = [0; 64];
-    load(nodes, node, &mut seed);
-    draw_children(maker, repetition, node as u16, &seed, &mut both);
+    let seed = load(nodes, node);
+    let both = draw_children(maker, repetition, node as u16, &seed);
     store(nodes, 2 * node, &both[0..32]);
     store(nodes, 2 * node + 1, &both[32..64]);
 }
@@ -56,9 +55,8 @@ fn draw_root<D: DigestMaker>(
     maker: &mut D,
     repetition: Repetition<'_>,
     master: &[u8; 32],
-    out: &mut [u8; 32],
-)
-    ensures { let r = repetition.entry in out.new ≡ root_of D.DigestMaker.function (short_bytes r.salt.now) master.now r.number }
+) -> [u8; 32]
+    ensures { let r = repetition.entry in result ≡ root_of D.DigestMaker.function (short_bytes r.salt.now) master.now r.number }
 {
     let Repetition {
         header: _,
@@ -66,7 +64,9 @@ fn draw_root<D: DigestMaker>(
         number,
     } = repetition;
     take_text(maker, 2, salt.as_slice(), &[number], master);
-    maker.draw(out).unwrap();
+    let mut root = [0; 32];
+    maker.draw(&mut root).unwrap();
+    root
 }
 
 /// The whole tree of a repetition: nodes 1 to 2·N - 1, the leaves last.
@@ -79,8 +79,7 @@ pub fn grow<D: DigestMaker>(
     requires { 32 * parties (parameters repetition.header) ≤ length nodes.old }
     ensures { let r = repetition.entry in Grown D.DigestMaker.function (short_bytes r.salt.now) r.number (root_of D.DigestMaker.function (short_bytes r.salt.now) master.now r.number) (parameters r.header).h nodes.new }
 {
-    let mut root = [0; 32];
-    draw_root(maker, repetition, master, &mut root);
+    let root = draw_root(maker, repetition, master);
     store(nodes, 1, &root);
     for node in 1..repetition.header.parties() {
         split(maker, repetition, node, nodes);
@@ -146,11 +145,10 @@ pub fn write_siblings(header: Header, hidden: usize, nodes: &[u16], out: &mut [u
     ensures { out.new ≡ flat_map (seed_in nodes.now) (sibling_nodes (parameters header).h hidden) }
 {
     let depth = header.h as usize;
-    let mut seed = [0; 32];
     for t in 0..depth {
         let width = 1 << t;
         let beside = other(hidden >> (depth - (t + 1)));
-        load(nodes, 2 * width + beside, &mut seed);
+        let seed = load(nodes, 2 * width + beside);
         // by places: what an output ends as that was cut into chunks, no clause of the library says
         out[32 * t..32 * t + 32].copy_from_slice(&seed);
     }

@@ -3,16 +3,18 @@ ghost use Rattle.std.specs.Prelude.{◌≡◌, ◌+◌, ◌*◌, ◌≤◌, leng
 ghost use Rattle.seedtree.specs.Words.{seed_in, Stored};
 
 /// The bytes of seed k.
-pub fn load(words: &[u16], k: usize, seed: &mut [u8; 32])
+pub fn load(words: &[u16], k: usize) -> [u8; 32]
     requires { 16 * k + 16 ≤ length words.now }
-    ensures { seed.new ≡ seed_in words.now k }
+    ensures { result ≡ seed_in words.now k }
 {
+    let mut seed = [0; 32];
     let row = &words[16 * k..16 * k + 16];
     for (i, word) in row.iter().enumerate() {
         let [low, high] = word.to_le_bytes();
         seed[2 * i] = low;
         seed[2 * i + 1] = high;
     }
+    seed
 }
 
 /// Makes these bytes seed k.

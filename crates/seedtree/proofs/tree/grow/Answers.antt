@@ -5,7 +5,7 @@ use Rattle.seedtree.proofs.Growing.{tree_start, tree_more}
 use Rattle.seedtree.proofs.tree.grow.Goals as goal
 
 pub loop-node-init : goal.loop-node-init
-loop-node-init g c = tree_start g.D.DigestMaker.function (short_bytes c.args.repetition.salt.now) c.args.repetition.number c.draw_root.ensures c.store.ensures
+loop-node-init g c = tree_start g.D.DigestMaker.function (short_bytes c.args.repetition.salt.now) c.args.repetition.number c.draw_root-root.ensures c.store.ensures
 
 pub loop-node-preserved : goal.loop-node-preserved
 loop-node-preserved g c =

@@ -14,8 +14,8 @@ pub row_more : (s : ℕ → List ℕ) (f : ℕ → ℕ) (t : ℕ) (old row : Lis
 row_more s f t old row room long is was =
     take-put_mid (32 * t) (32 * t + 32 - 32 * t) old row (32 * (t + 1)) (omega arith) (omega arith) ∙ (λ z. was z ++ is z) ∙ sym (joined_counted s f t)
 
-pub load-requires : goal.load-requires
-load-requires c =
+pub load-seed-requires : goal.load-seed-requires
+load-seed-requires c =
     let less = c.loop-t-test.true in
     let wide = level_wide c.loop-t.t less (omega arith) in
     let f = level_fits less (omega arith) c.requires.hidden wide in
@@ -28,6 +28,6 @@ loop-t-preserved c =
     let t = c.loop-t.t in
     let next = next_wide t _ (level_wide t c.loop-t-test.true (omega arith)) in
     row_more (seed_in nodes) (sibling_node c.args.header.h c.args.hidden) t c.loop-t.out c.copy_from_slice.new.self (omega arith)
-    (ap length c.copy_from_slice.ensures.after ∙ c.load.array_long)
-    (c.copy_from_slice.ensures.after ∙ c.load.ensures ∙ (λ z. seed_in nodes (next z + c.other-beside.ensures z)))
+    (ap length c.copy_from_slice.ensures.after ∙ omega arith)
+    (c.copy_from_slice.ensures.after ∙ c.load-seed.ensures ∙ (λ z. seed_in nodes (next z + c.other-beside.ensures z)))
     c.loop-t.invariant
