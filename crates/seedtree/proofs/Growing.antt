@@ -104,12 +104,12 @@ module _ (F : Digest) (salt : List ℕ) (e : ℕ) where
       width ≡ 2 ^ t → place ≡ beside (above h hidden (t + 1)) → seed ≡ get_or given t [] →
       Regrowing h hidden given t old →
       Leveled F salt e width (width + above h hidden t) old mid →
-      Stored (width * 2 + place) seed mid new →
+      Stored (2 * width + place) seed mid new →
       Regrowing h hidden given (t + 1) new
   regrowing_more h hidden given t width place seed old mid new lt wide at is was g s =
-      let next : width * 2 ≡ 2 ^ suc t = omega arith in
+      let next : 2 * width ≡ 2 ^ suc t = omega arith in
       let there : place ≡ beside (above h hidden (suc t)) = at ∙ ap (λ n. beside (above h hidden n)) (add-one t) in
       subst (λ n. Regrowing h hidden given n new) (sym (add-one t))
       (deeper h hidden given t old mid new lt was
       (subst (λ w. Leveled F salt e w (w + above h hidden t) old mid) wide g)
-      (subst (λ k. Stored k (get_or given t []) mid new) (λ z. next z + there z) (subst (λ x. Stored (width * 2 + place) x mid new) is s)))
+      (subst (λ k. Stored k (get_or given t []) mid new) (λ z. next z + there z) (subst (λ x. Stored (2 * width + place) x mid new) is s)))

@@ -1,6 +1,6 @@
 -- The path to a leaf, and the places beside it.
 use Rattle.std.proofs.Common.{◌≡◌, ℕ, suc, ◌+◌, ◌-◌, ◌*◌, ◌/◌, ◌%◌, ◌^◌, ◌<◌, ◌≤◌, sym, ap, ◌∙◌, subst, inl, inr, div-one, add-one, arith, pow_mono}
-use Rattle.std.proofs.lemmas.Nat.{shr_below}
+use Rattle.std.proofs.lemmas.Nat.{shr_below, one_shl}
 use Rattle.std.proofs.lemmas.Bool.{eq-eqb, ne_eqb, cond-true, cond-false, cases_eq}
 use Rattle.protocol.specs.Tree.{above, beside}
 use Rattle.soundness.proofs.Trees.{above_half}
@@ -51,5 +51,9 @@ beside_fits {h} {p} {t} {width} {place} less small wide is =
     let low : beside (above h p (t + 1)) < 2 ^ suc t = subst (λ n. beside (above h p (t + 1)) < 2 ^ n) (add-one t) (beside_small h p t less small) in
     omega arith
 
-pub twice_wide : (t width : ℕ) → width ≡ 2 ^ t → width * 2 ≡ 2 ^ (t + 1)
-twice_wide t width wide = (let e : width * 2 ≡ 2 ^ suc t = omega arith in e) ∙ ap (λ n. 2 ^ n) (sym (add-one t))
+-- the width of a level, as a shift makes it
+pub level_wide : {h : ℕ} (t : ℕ) → t < h → h ≤ 8 → 1 * 2 ^ t % 2 ^ 64 ≡ 2 ^ t
+level_wide t less few = one_shl t 64 (omega arith)
+
+pub next_wide : (t width : ℕ) → width ≡ 2 ^ t → 2 * width ≡ 2 ^ (t + 1)
+next_wide t width wide = (let e : 2 * width ≡ 2 ^ suc t = omega arith in e) ∙ ap (λ n. 2 ^ n) (sym (add-one t))

@@ -1,8 +1,9 @@
 -- Seeds out of words: those beside the path to a leaf, and how long each is.
-use Rattle.std.proofs.Common.{◌≡◌, ℕ, zero, suc, ◌+◌, ◌*◌, ◌^◌, ◌<◌, ◌≤◌, List, [], ◌∷◌, ◌++◌, map, length, get_or, sym, refl, ap, ◌∙◌, add-one, arith}
+use Rattle.std.proofs.Common.{◌≡◌, ℕ, zero, suc, ◌+◌, ◌*◌, ◌^◌, ◌<◌, ◌≤◌, List, [], ◌∷◌, ◌++◌, map, length, get_or, take, drop, sym, refl, ap, ◌∙◌, add-one, arith}
 use Rattle.std.specs.List.{range_with_len, flat_map}
+use Rattle.std.specs.Simd.{first_chunks}
 use Rattle.std.proofs.lemmas.List.FromFn.{get_or-map-range_with_len, map-range_with_len_more}
-use Rattle.std.proofs.lemmas.List.{flat_map_more, length-drop, length-take}
+use Rattle.std.proofs.lemmas.List.{flat_map_more, length-drop, length-take, drop-drop}
 use Rattle.protocol.specs.Bytes.{part, le16}
 use Rattle.protocol.specs.Sharing.{parts}
 use Rattle.protocol.specs.Streams.{Digest}
@@ -42,3 +43,12 @@ length-words (x ∷ xs) = omega (arith, length-words xs)
 pub length-seed : (words : List ℕ) (k : ℕ) → 16 * k + 16 ≤ length words → length (seed_in words k) ≡ 32
 unfolding seed_in
 length-seed words k h = length-words (part words (16 * k) 16) ∙ simp (length-take, length-drop) (omega arith)
+
+-- a chunk of 32 bytes is the seed at its place
+pub chunk_is : (k : ℕ) (bytes : List ℕ) (t : ℕ) → t < k → get_or (first_chunks 32 k bytes) t [] ≡ part bytes (32 * t) 32
+chunk_is zero bytes t less = absurd (omega arith)
+chunk_is (suc k) bytes zero less = refl
+chunk_is (suc k) bytes (suc t) less =
+    chunk_is k (drop 32 bytes) t (omega arith)
+    ∙ ap (take 32) (drop-drop (32 * t) 32 bytes)
+    ∙ ap (λ n. part bytes n 32) (let e : 32 + 32 * t ≡ 32 * suc t = omega arith in e)

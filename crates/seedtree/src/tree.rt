@@ -11,38 +11,41 @@ ghost use Rattle.digest.specs.Short.{short_bytes};
 ghost use Rattle.seedtree.specs.Words.{seed_in};
 ghost use Rattle.seedtree.specs.Grown.{Split, Leveled, Grown, Regrown};
 
+use crate::repetition::Repetition;
 use crate::words::{load, store};
 use digest::maker::DigestMaker;
-use digest::short::ShortBytes;
 use digest::text::take_text;
 use protocol::header::Header;
 
 /// The seeds of a node's left and right child, drawn on its own seed.
 fn draw_children<D: DigestMaker>(
     maker: &mut D,
-    salt: &ShortBytes,
-    e: u8,
+    repetition: Repetition<'_>,
     node: u16,
     seed: &[u8; 32],
-    both: &mut [u8; 64],
-)
-    ensures { both.new ≡ drawn D.DigestMaker.function (text3 (short_bytes salt.now) e node seed.now) 64 }
+) -> [u8; 64]
+    ensures { let r = repetition.entry in result ≡ drawn D.DigestMaker.function (text3 (short_bytes r.salt.now) r.number node seed.now) 64 }
 {
+    let Repetition {
+        header: _,
+        salt,
+        number,
+    } = repetition;
     let [low, high] = node.to_le_bytes();
-    take_text(maker, 3, salt.as_slice(), &[e, low, high], seed);
-    maker.draw(both).unwrap();
+    take_text(maker, 3, salt.as_slice(), &[number, low, high], seed);
+    let mut both = [0; 64];
+    maker.draw(&mut both).unwrap();
+    both
 }
 
 /// Writes the seeds of a node's children.
-fn split<D: DigestMaker>(maker: &mut D, salt: &ShortBytes, e: u8, node: usize, nodes: &mut [u16])
+fn split<D: DigestMaker>(maker: &mut D, repetition: Repetition<'_>, node: usize, nodes: &mut [u16])
     requires room { 32 * node + 32 ≤ length nodes.old }
     requires few { node < 65536 }
-    ensures { Split D.DigestMaker.function (short_bytes salt.now) e node nodes.old nodes.new }
+    ensures { let r = repetition.entry in Split D.DigestMaker.function (short_bytes r.salt.now) r.number node nodes.old nodes.new }
 {
-    let mut seed = [0; 32];
-    let mut both = [0; 64];
-    load(nodes, node, &mut seed);
-    draw_children(maker, salt, e, node as u16, &seed, &mut both);
+    let seed = load(nodes, node);
+    let both = draw_children(maker, repetition, node as u16, &seed);
     store(nodes, 2 * node, &both[0..32]);
     store(nodes, 2 * node + 1, &both[32..64]);
 }
@@ -50,53 +53,54 @@ fn split<D: DigestMaker>(maker: &mut D, salt: &ShortBytes, e: u8, node: usize, n
 /// The seed of a repetition's root, drawn on the master.
 fn draw_root<D: DigestMaker>(
     maker: &mut D,
-    salt: &ShortBytes,
-    e: u8,
+    repetition: Repetition<'_>,
     master: &[u8; 32],
-    out: &mut [u8; 32],
-)
-    ensures { out.new ≡ root_of D.DigestMaker.function (short_bytes salt.now) master.now e }
+) -> [u8; 32]
+    ensures { let r = repetition.entry in result ≡ root_of D.DigestMaker.function (short_bytes r.salt.now) master.now r.number }
 {
-    take_text(maker, 2, salt.as_slice(), &[e], master);
-    maker.draw(out).unwrap();
+    let Repetition {
+        header: _,
+        salt,
+        number,
+    } = repetition;
+    take_text(maker, 2, salt.as_slice(), &[number], master);
+    let mut root = [0; 32];
+    maker.draw(&mut root).unwrap();
+    root
 }
 
-/// The whole tree of repetition e: nodes 1 to 2·N - 1, the leaves last.
+/// The whole tree of a repetition: nodes 1 to 2·N - 1, the leaves last.
 pub fn grow<D: DigestMaker>(
     maker: &mut D,
-    header: Header,
-    salt: &ShortBytes,
+    repetition: Repetition<'_>,
     master: &[u8; 32],
-    e: u8,
     nodes: &mut [u16],
 )
-    requires { 32 * parties (parameters header) ≤ length nodes.old }
-    ensures { Grown D.DigestMaker.function (short_bytes salt.now) e (root_of D.DigestMaker.function (short_bytes salt.now) master.now e) (parameters header).h nodes.new }
+    requires { 32 * parties (parameters repetition.header) ≤ length nodes.old }
+    ensures { let r = repetition.entry in Grown D.DigestMaker.function (short_bytes r.salt.now) r.number (root_of D.DigestMaker.function (short_bytes r.salt.now) master.now r.number) (parameters r.header).h nodes.new }
 {
-    let mut root = [0; 32];
-    draw_root(maker, salt, e, master, &mut root);
+    let root = draw_root(maker, repetition, master);
     store(nodes, 1, &root);
-    for node in 1..header.parties() {
-        split(maker, salt, e, node, nodes);
+    for node in 1..repetition.header.parties() {
+        split(maker, repetition, node, nodes);
     }
 }
 
 /// Writes the children of all nodes of a level but one; the nodes of a level of `width` are width to 2·width - 1.
 fn split_level<D: DigestMaker>(
     maker: &mut D,
-    salt: &ShortBytes,
-    e: u8,
+    repetition: Repetition<'_>,
     width: usize,
     path: usize,
     nodes: &mut [u16],
 )
     requires few { width ≤ 256 }
     requires room { 64 * width ≤ length nodes.old }
-    ensures { Leveled D.DigestMaker.function (short_bytes salt.now) e width path nodes.old nodes.new }
+    ensures { let r = repetition.entry in Leveled D.DigestMaker.function (short_bytes r.salt.now) r.number width path nodes.old nodes.new }
 {
     for node in width..2 * width {
         if node != path {
-            split(maker, salt, e, node, nodes);
+            split(maker, repetition, node, nodes);
         }
     }
 }
@@ -109,35 +113,27 @@ fn other(i: usize) -> usize
     if i % 2 == 0 { i + 1 } else { i - 1 }
 }
 
-/// Every leaf of repetition e but the hidden one, from the seeds beside its path, which come from the top down.
+/// Every leaf of a repetition but the hidden one, from the seeds beside its path, which come from the top down.
 pub fn regrow<D: DigestMaker>(
     maker: &mut D,
-    header: Header,
-    salt: &ShortBytes,
-    e: u8,
+    repetition: Repetition<'_>,
     hidden: usize,
     siblings: &[u8],
     nodes: &mut [u16],
 )
-    requires hidden { hidden < parties (parameters header) }
-    requires siblings { length siblings.now ≡ 32 * (parameters header).h }
-    requires room { 32 * parties (parameters header) ≤ length nodes.old }
-    ensures { Regrown D.DigestMaker.function (short_bytes salt.now) e (parameters header).h hidden siblings.now nodes.new }
+    requires hidden { hidden < parties (parameters repetition.header) }
+    requires siblings { length siblings.now ≡ 32 * (parameters repetition.header).h }
+    requires room { 32 * parties (parameters repetition.header) ≤ length nodes.old }
+    ensures { let r = repetition.entry in Regrown D.DigestMaker.function (short_bytes r.salt.now) r.number (parameters r.header).h hidden siblings.now nodes.new }
 {
-    let depth = header.h as usize;
-    let mut width = 1;
-    for t in 0..depth {
-        split_level(
-            maker,
-            salt,
-            e,
-            width,
-            width + (hidden >> (depth - t)),
-            nodes,
-        );
-        width *= 2;
+    let depth = repetition.header.h as usize;
+    let (seeds, _) = siblings.as_chunks::<32>();
+    for (t, seed) in seeds.iter().enumerate() {
+        let width = 1 << t;
+        let path = hidden >> (depth - t);
+        split_level(maker, repetition, width, width + path, nodes);
         let beside = other(hidden >> (depth - (t + 1)));
-        store(nodes, width + beside, &siblings[32 * t..32 * t + 32]);
+        store(nodes, 2 * width + beside, seed);
     }
 }
 
@@ -149,12 +145,11 @@ pub fn write_siblings(header: Header, hidden: usize, nodes: &[u16], out: &mut [u
     ensures { out.new ≡ flat_map (seed_in nodes.now) (sibling_nodes (parameters header).h hidden) }
 {
     let depth = header.h as usize;
-    let mut width = 1;
-    let mut seed = [0; 32];
     for t in 0..depth {
-        width *= 2;
+        let width = 1 << t;
         let beside = other(hidden >> (depth - (t + 1)));
-        load(nodes, width + beside, &mut seed);
+        let seed = load(nodes, 2 * width + beside);
+        // by places: what an output ends as that was cut into chunks, no clause of the library says
         out[32 * t..32 * t + 32].copy_from_slice(&seed);
     }
 }

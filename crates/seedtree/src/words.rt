@@ -3,15 +3,18 @@ ghost use Rattle.std.specs.Prelude.{◌≡◌, ◌+◌, ◌*◌, ◌≤◌, leng
 ghost use Rattle.seedtree.specs.Words.{seed_in, Stored};
 
 /// The bytes of seed k.
-pub fn load(words: &[u16], k: usize, seed: &mut [u8; 32])
+pub fn load(words: &[u16], k: usize) -> [u8; 32]
     requires { 16 * k + 16 ≤ length words.now }
-    ensures { seed.new ≡ seed_in words.now k }
+    ensures { result ≡ seed_in words.now k }
 {
-    for i in 0..16 {
-        let [low, high] = words[16 * k + i].to_le_bytes();
+    let mut seed = [0; 32];
+    let row = &words[16 * k..16 * k + 16];
+    for (i, word) in row.iter().enumerate() {
+        let [low, high] = word.to_le_bytes();
         seed[2 * i] = low;
         seed[2 * i + 1] = high;
     }
+    seed
 }
 
 /// Makes these bytes seed k.
@@ -20,7 +23,8 @@ pub fn store(words: &mut [u16], k: usize, seed: &[u8])
     requires long { length seed.now ≡ 32 }
     ensures { Stored k seed.now words.old words.new }
 {
-    for i in 0..16 {
-        words[16 * k + i] = u16::from_le_bytes([seed[2 * i], seed[2 * i + 1]]);
+    let row = &mut words[16 * k..16 * k + 16];
+    for (i, word) in row.iter_mut().enumerate() {
+        *word = u16::from_le_bytes([seed[2 * i], seed[2 * i + 1]]);
     }
 }

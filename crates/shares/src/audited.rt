@@ -15,10 +15,9 @@ use protocol::header::Header;
 fn residue_at(set: Set, bytes: &[u8], i: usize) -> u16
     ensures { result ≡ residue_of (modulus (number set)) (slice_index_or (map signed bytes.now) i (pos 0)) }
 {
-    if i < bytes.len() {
-        residue(set, from_byte(bytes[i]))
-    } else {
-        0
+    match bytes.get(i) {
+        Some(byte) => residue(set, from_byte(*byte)),
+        None => 0,
     }
 }
 
@@ -31,8 +30,8 @@ pub fn spread_audited(header: Header, flags: &[u16], bytes: &[u8], values: &mut 
 {
     let set = header.set;
     let mut next = 0;
-    for k in 0..values.len() {
-        values[k] = residue_at(set, bytes, next);
+    for (k, value) in values.iter_mut().enumerate() {
+        *value = residue_at(set, bytes, next);
         if flags[k] != 1 {
             next += 1;
         }

@@ -13,6 +13,7 @@ use digest::text::take_text;
 use protocol::set::Set;
 use lattice::values::{read_words, reduce_all, sample_all};
 use protocol::header::Header;
+use seedtree::repetition::Repetition;
 
 /// Draws by way of bytes.
 fn draw_by<D: DigestMaker>(maker: &mut D, bytes: &mut [u8], words: &mut [u16])
@@ -30,12 +31,11 @@ pub fn draw_words<D: DigestMaker>(maker: &mut D, words: &mut [u16])
     requires { (D.DigestMaker.means maker.old).drawn + 2 * length words.old ≤ limit }
     ensures { words.new ≡ map (stream_word ((D.DigestMaker.means maker.old).rule [])) (range_with_len 0 (length words.old)) }
 {
-    let mut at = 0;
-    while at < words.len() {
+    let end = words.len();
+    for from in (0..end).step_by(64) {
+        let n = (end - from).min(64);
         let mut bytes = [0; 128];
-        let n = (words.len() - at).min(64);
-        draw_by(maker, &mut bytes[0..2 * n], &mut words[at..at + n]);
-        at += n;
+        draw_by(maker, &mut bytes[0..2 * n], &mut words[from..from + n]);
     }
 }
 
@@ -58,17 +58,20 @@ pub fn draw_values<D: DigestMaker>(
 /// A party's shares, modulo q.
 pub fn draw_shares<D: DigestMaker>(
     maker: &mut D,
-    header: Header,
-    salt: &ShortBytes,
-    e: u8,
+    repetition: Repetition<'_>,
     party: u8,
     seed: &[u8; 32],
     shares: &mut [u16],
 )
     requires { length shares.old ≤ 32768 }
-    ensures { shares.new ≡ map (share D.DigestMaker.function (parameters header) (short_bytes salt.now) e party seed.now) (range_with_len 0 (length shares.old)) }
+    ensures { let r = repetition.entry in shares.new ≡ map (share D.DigestMaker.function (parameters r.header) (short_bytes r.salt.now) r.number party seed.now) (range_with_len 0 (length shares.old)) }
 {
-    take_text(maker, 5, salt.as_slice(), &[e, party], seed);
+    let Repetition {
+        header,
+        salt,
+        number,
+    } = repetition;
+    take_text(maker, 5, salt.as_slice(), &[number, party], seed);
     draw_words(maker, shares);
     reduce_all(header.set, shares);
 }

@@ -3,6 +3,7 @@
 
 pub mod audited;
 pub mod drawing;
+pub mod kept;
 pub mod party;
 pub mod product;
 pub mod taking;

@@ -1,5 +1,5 @@
 //! Rows of numbers, taken into a text.
-ghost use Rattle.std.specs.Prelude.{◌≡◌, ◌*◌, ◌<◌, length};
+ghost use Rattle.std.specs.Prelude.{◌≡◌, ◌*◌, cond, [], length, ◌==◌};
 ghost use Rattle.std.specs.List.{flat_map};
 ghost use Rattle.protocol.specs.Bytes.{le16};
 ghost use Rattle.protocol.specs.Scheme.{words};
@@ -31,14 +31,12 @@ pub fn take_coded<D: DigestMaker>(maker: &mut D, count: usize, bytes: &[u8])
 }
 
 /// Takes a share, unless its value is kept.
-fn take_unless_kept<D: DigestMaker>(maker: &mut D, flags: &[u16], shares: &[u16], k: usize)
-    requires flags { k < length flags.now }
-    requires shares { k < length shares.now }
-    requires ready { Ready 2 (D.DigestMaker.means maker.old) }
-    ensures { Took (audited_share flags.now (at shares.now) k) (D.DigestMaker.means maker.old) (D.DigestMaker.means maker.new) }
+fn take_unless_kept<D: DigestMaker>(maker: &mut D, flag: u16, share: u16)
+    requires { Ready 2 (D.DigestMaker.means maker.old) }
+    ensures { Took (cond (flag == 1) [] (le16 share)) (D.DigestMaker.means maker.old) (D.DigestMaker.means maker.new) }
 {
-    if flags[k] != 1 {
-        maker.take(&shares[k].to_le_bytes()).unwrap();
+    if flag != 1 {
+        maker.take(&share.to_le_bytes()).unwrap();
     }
 }
 
@@ -48,7 +46,7 @@ pub fn take_audited<D: DigestMaker>(maker: &mut D, flags: &[u16], shares: &[u16]
     requires ready { Ready (2 * length shares.now) (D.DigestMaker.means maker.old) }
     ensures { Took (parts (length shares.now) (audited_share flags.now (at shares.now))) (D.DigestMaker.means maker.old) (D.DigestMaker.means maker.new) }
 {
-    for k in 0..shares.len() {
-        take_unless_kept(maker, flags, shares, k);
+    for (flag, share) in flags.iter().zip(shares) {
+        take_unless_kept(maker, *flag, *share);
     }
 }

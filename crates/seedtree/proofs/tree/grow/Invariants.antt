@@ -7,4 +7,5 @@ use Rattle.seedtree.proofs.tree.grow.Given as goal
 abbrev pub invariant-loop-node : goal.invariant-loop-node
 invariant-loop-node g l =
     let F = g.D.DigestMaker.function in
-    TreeTo F (short_bytes l.salt) l.e (root_of F (short_bytes l.salt) l.master l.e) (2 * l.node) l.nodes
+    let salt = short_bytes l.repetition.salt.now in
+    TreeTo F salt l.repetition.number (root_of F salt l.master l.repetition.number) (2 * l.node) l.nodes

@@ -7,8 +7,8 @@ use Rattle.seedtree.proofs.tree.split_level.Goals.{then-node-path, else-node-pat
 pub loop-node-preserved : goal.loop-node-preserved
 loop-node-preserved g c =
     let F = g.D.DigestMaker.function in
-    let salt = short_bytes c.args.salt.now in
-    let e = c.args.e in
+    let salt = short_bytes c.args.repetition.salt.now in
+    let e = c.args.repetition.number in
     let width = c.args.width in
     let path = c.args.path in
     let node = c.loop-node.node in

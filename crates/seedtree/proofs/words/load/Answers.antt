@@ -1,4 +1,4 @@
-use Rattle.std.proofs.Common.{◌≡◌, ◌*◌, sym, ap, ◌∙◌, arith}
+use Rattle.std.proofs.Common.{◌≡◌, ◌+◌, ◌-◌, ◌*◌, sym, ap, ◌∙◌, arith}
 use Rattle.std.specs.List.{flat_map}
 use Rattle.std.proofs.lemmas.List.{length-set, take_all}
 use Rattle.protocol.specs.Bytes.{part, le16}
@@ -9,13 +9,13 @@ use Rattle.seedtree.proofs.words.load.Goals as goal
 pub loop-i-preserved : goal.loop-i-preserved
 loop-i-preserved c = (
   simp length-set c.loop-i.invariant.0,
-  loaded_more c.args.words.now c.loop-i.seed (16 * c.args.k) c.loop-i.i c.to_le_bytes.result (omega arith) (omega arith) c.to_le_bytes.ensures c.loop-i.invariant.1,
+  loaded_more _ c.loop-i.seed c.loop-i.i c.to_le_bytes.result c.loop-i-test.true (omega arith) c.to_le_bytes.ensures c.loop-i.invariant.1,
 )
 
 pub returns : goal.returns
 unfolding seed_in
 returns c =
-    let end : c.loop-i.i ≡ 16 = omega arith in
     sym (take_all (2 * c.loop-i.i) c.loop-i.seed (omega arith))
     ∙ c.loop-i.invariant.1
-    ∙ ap (λ n. flat_map le16 (part c.args.words.now (16 * c.args.k) n)) end
+    ∙ ap (flat_map le16) (take_all c.loop-i.i _ c.loop-i-test.false)
+    ∙ ap (λ n. flat_map le16 (part c.args.words.now (16 * c.args.k) n)) (let n : 16 * c.args.k + 16 - 16 * c.args.k ≡ 16 = omega arith in n)

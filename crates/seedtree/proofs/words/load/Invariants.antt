@@ -1,7 +1,7 @@
 use Rattle.std.proofs.Common.{◌≡◌, ◌*◌, length, take}
 use Rattle.std.specs.List.{flat_map}
-use Rattle.protocol.specs.Bytes.{part, le16}
+use Rattle.protocol.specs.Bytes.{le16}
 use Rattle.seedtree.proofs.words.load.Given as goal
 
 abbrev pub invariant-loop-i : goal.invariant-loop-i
-invariant-loop-i l = (length l.seed ≡ 32) × (take (2 * l.i) l.seed ≡ flat_map le16 (part l.words (16 * l.k) l.i))
+invariant-loop-i l = (length l.seed ≡ 32) × (take (2 * l.i) l.seed ≡ flat_map le16 (take l.i l.row))

@@ -10,20 +10,20 @@ use Rattle.shares.proofs.party.take_found.Goals as goal
 
 pub take_words-requires : goal.take_words-requires
 take_words-requires g c =
-    let p = parameters c.args.header in
+    let p = parameters c.args.kept.header in
     let shares = c.subtract_from.new.part in
-    let ready = ready_product _ _ (length shares) (p.n * p.c) c.args.flags.now (at shares) (omega arith) (omega arith) c.requires.ready c.take_audited.ensures in
+    let ready = ready_product _ _ (length shares) (p.n * p.c) c.args.kept.flags.now (at shares) (omega arith) (omega arith) c.requires.ready c.take_audited.ensures in
     (ready.0, omega (arith, ready.1))
 
 pub returns : goal.returns
 unfolding found
 returns g c =
-    let p = parameters c.args.header in
+    let p = parameters c.args.kept.header in
     let q = modulus p.set in
-    let flags = c.args.flags.now in
-    let values = at c.args.values.now in
-    let key = at c.args.key.now in
-    let sums = at c.args.sums.now in
+    let flags = c.args.kept.flags.now in
+    let values = at c.args.missing.values.now in
+    let key = at c.args.missing.key.now in
+    let sums = at c.args.missing.sums.now in
     let v : ℕ → ℕ = λ k. (modular q).sub (values k) (sums k) in
     let f : ℕ → ℕ = λ i. (modular q).sub (key i) (product_of p c.args.seed_a.now flags sums i) in
     let shares = c.subtract_from.new.part in
@@ -34,5 +34,5 @@ returns g c =
     row_at (λ k. (modular (modulus (number c.of-set.result))).sub (values k) (at sum k)) (length sum) k shares c.subtract_from.ensures (omega arith)
     ∙ (λ i. (modular (modulus (c.of-set.ensures i))).sub (values k) (at (c.copy_from_slice.ensures.after i) k)))
     c.take_audited.ensures
-    (subtracted_row _ p.set (p.n * p.c) c.args.key.now c.share_product.new.product _ (product_of p c.args.seed_a.now flags sums) c.of-set.ensures c.share_product.ensures c.subtract_from-2.ensures)
+    (subtracted_row _ p.set (p.n * p.c) c.args.missing.key.now c.share_product.new.product _ (product_of p c.args.seed_a.now flags sums) c.of-set.ensures c.share_product.ensures c.subtract_from-2.ensures)
     c.take_words.ensures
