@@ -93,7 +93,7 @@ pub fn take_found<D: DigestMaker>(
 {
     let Kept { header, flags } = kept;
     let Missing { values, key, sums } = missing;
-    let set = Set::of(header);
+    let set = header.set;
     shares.copy_from_slice(sums);
     subtract_from(set, values, shares);
     take_audited(maker, flags, shares);

@@ -3,7 +3,7 @@ use lib.Bits.{bit_and}
 use Rattle.std.proofs.lemmas.List.{get_or-set_same, get_or-set_other}
 use Rattle.protocol.specs.Parameters.{modulus}
 use Rattle.lattice.specs.Lines.{at, row_entry}
-use Rattle.lattice.specs.Sets.{number}
+use Rattle.protocol.specs.Sets.{number}
 use Rattle.lattice.proofs.Dots.{row_made}
 use Rattle.lattice.proofs.product.multiply_line.Goals as goal
 

@@ -1,7 +1,7 @@
 use Rattle.std.proofs.Common.{◌≡◌, ℕ, ◌<◌, length}
 use Rattle.protocol.specs.Parameters.{modulus}
 use Rattle.lattice.specs.Lines.{at, row_entry}
-use Rattle.lattice.specs.Sets.{number}
+use Rattle.protocol.specs.Sets.{number}
 use Rattle.lattice.proofs.product.multiply_line.Given as goal
 
 abbrev pub invariant-loop-l : goal.invariant-loop-l

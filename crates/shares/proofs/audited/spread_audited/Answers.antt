@@ -39,7 +39,7 @@ loop-k-preserved c =
       ],
       below_more _ k
           (λ i q. get_or-set_other values k i _ 0 (λ o. omega arith) ∙ c.loop-k.invariant.1 i q)
-          (get_or-set_same values k _ 0 (omega arith) ∙ c.residue_at.ensures ∙ ap (λ n. residue (modulus (number c.of-set.result)) (get_or (map signed c.args.bytes.now) n (pos 0))) c.loop-k.invariant.0),
+          (get_or-set_same values k _ 0 (omega arith) ∙ c.residue_at.ensures ∙ ap (λ n. residue (modulus (number c.args.header.set)) (get_or (map signed c.args.bytes.now) n (pos 0))) c.loop-k.invariant.0),
     )
 
 pub returns : goal.returns
@@ -47,5 +47,5 @@ unfolding spread
 returns c =
     let flags = c.args.flags.now in
     let bytes = c.args.bytes.now in
-    fill_by_all (λ k. residue (modulus c.args.header.set) (get_or (map signed bytes) (audited_before flags k) (pos 0))) c.loop-k.values c.args.header.m 0 (omega arith)
-    (λ k q. c.loop-k.invariant.1 k (omega arith) ∙ ap (λ s. residue (modulus s) (get_or (map signed bytes) (audited_before flags k) (pos 0))) c.of-set.ensures)
+    fill_by_all (λ k. residue (modulus (number c.args.header.set)) (get_or (map signed bytes) (audited_before flags k) (pos 0))) c.loop-k.values c.args.header.m 0 (omega arith)
+    (λ k q. c.loop-k.invariant.1 k (omega arith))

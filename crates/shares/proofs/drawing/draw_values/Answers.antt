@@ -4,6 +4,7 @@ use Rattle.std.proofs.lemmas.Simd.{map-map}
 use Rattle.std.proofs.lemmas.List.{append-nil}
 use Rattle.protocol.specs.Parameters.{modulus, table}
 use Rattle.protocol.specs.Residues.{residue}
+use Rattle.protocol.specs.Sets.{number}
 use Rattle.protocol.specs.Sampling.{sampled}
 use Rattle.protocol.specs.Streams.{stream_word}
 use Rattle.digest.specs.Short.{short_bytes}
@@ -19,12 +20,12 @@ pub returns : goal.returns
 unfolding value_residues value
 returns g c =
     let F = g.D.DigestMaker.function in
-    let set = c.args.header.set in
+    let set = number c.args.header.set in
     let s : ℕ → ℕ = (g.D.DigestMaker.means c.take_text.new.maker).rule [] in
     let master = c.args.master.now in
     let stream : s ≡ F (1 ∷ (short_bytes c.args.salt.now ++ master)) =
     holding_stream c.take_text.ensures ∙ (λ i. F (1 ∷ (c.as_slice.ensures.bytes i ++ append-nil master i))) in
     c.sample_all.ensures
-    ∙ (λ i. map (value (c.of.ensures i)) (c.draw_words.ensures i))
+    ∙ (λ i. map (value set) (c.draw_words.ensures i))
     ∙ map-map (value set) (stream_word s) (range_with_len 0 (length c.args.values.now))
     ∙ (λ i. map (λ k. value set (stream_word (stream i) k)) (range_with_len 0 (c.requires i)))

@@ -1,9 +1,8 @@
-use Rattle.std.proofs.Common.{◌≡◌, ℕ, ◌*◌, length, ◌∙◌, arith}
+use Rattle.std.proofs.Common.{◌≡◌, ℕ, ◌*◌, length, refl, ◌∙◌, arith}
 use Rattle.protocol.specs.Of.{parameters}
 use Rattle.protocol.specs.Parameters.{modulus}
 use Rattle.protocol.specs.Residues.{modular}
 use Rattle.lattice.specs.Lines.{at}
-use Rattle.protocol.specs.Sets.{number}
 use Rattle.shares.specs.Shown.{found, product_of}
 use Rattle.shares.proofs.Products.{ready_product, took_row, row_at, subtracted_row}
 use Rattle.shares.proofs.party.take_found.Goals as goal
@@ -31,8 +30,8 @@ returns g c =
     let long : length shares ≡ p.m = omega arith in
     took_row _ _ _ p.m (length shares) (p.n * p.c) flags (at shares) v f _ long
     (λ k r.
-    row_at (λ k. (modular (modulus (number c.of-set.result))).sub (values k) (at sum k)) (length sum) k shares c.subtract_from.ensures (omega arith)
-    ∙ (λ i. (modular (modulus (c.of-set.ensures i))).sub (values k) (at (c.copy_from_slice.ensures.after i) k)))
+    row_at (λ k. (modular q).sub (values k) (at sum k)) (length sum) k shares c.subtract_from.ensures (omega arith)
+    ∙ (λ i. (modular q).sub (values k) (at (c.copy_from_slice.ensures.after i) k)))
     c.take_audited.ensures
-    (subtracted_row _ p.set (p.n * p.c) c.args.missing.key.now c.share_product.new.product _ (product_of p c.args.seed_a.now flags sums) c.of-set.ensures c.share_product.ensures c.subtract_from-2.ensures)
+    (subtracted_row _ p.set (p.n * p.c) c.args.missing.key.now c.share_product.new.product _ (product_of p c.args.seed_a.now flags sums) refl c.share_product.ensures c.subtract_from-2.ensures)
     c.take_words.ensures
