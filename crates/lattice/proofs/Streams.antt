@@ -1,18 +1,19 @@
 -- Pairs of bytes from the front of a stream.
-use Rattle.std.proofs.Common.{◌≡◌, ℕ, zero, suc, ◌+◌, ◌*◌, ◌%◌, ◌<◌, List, [], map, get_or, drop, ap, ◌∙◌, arith}
+use Rattle.std.proofs.Common.{◌≡◌, ℕ, ◌+◌, ◌*◌, ◌%◌, ◌<◌, List, [], map, get_or, drop, ap, ◌∙◌, arith}
 use Rattle.std.specs.List.{range_with_len}
 use Rattle.std.specs.Simd.{first_chunks}
 use Rattle.std.proofs.lemmas.List.{get_or-take, get_or-drop}
 use Rattle.std.proofs.lemmas.List.FromFn.{fill_by_all, get_or-map-range_with_len, length-map-range_with_len}
 use Rattle.protocol.specs.Residues.{residue_in}
 use Rattle.protocol.specs.Streams.{first_bytes, stream_word}
+use Rattle.digest.proofs.Chunks.{chunk_at}
 use Rattle.lattice.specs.Lines.{at}
 
 -- byte j of pair t
 pair_at : (bs : List ℕ) (k t j : ℕ) → t < k → j < 2 → at (get_or (first_chunks 2 k bs) t []) j ≡ at bs (2 * t + j)
-pair_at bs zero t j h b = absurd (omega arith)
-pair_at bs (suc k) zero j h b = get_or-take 2 bs j 0 b ∙ ap (at bs) (let e : j ≡ 2 * 0 + j = omega arith in e)
-pair_at bs (suc k) (suc t) j h b = pair_at (drop 2 bs) k t j (omega arith) b ∙ get_or-drop 2 bs (2 * t + j) 0 ∙ ap (at bs) (let e : 2 + (2 * t + j) ≡ 2 * suc t + j = omega arith in e)
+pair_at bs k t j h b =
+    ap (λ z. at z j) (chunk_at 2 k bs t [] h) ∙ get_or-take 2 (drop (t * 2) bs) j 0 b ∙ get_or-drop (t * 2) bs j 0
+    ∙ ap (at bs) (let e : t * 2 + j ≡ 2 * t + j = omega arith in e)
 
 pub word_of_pair : (bs : List ℕ) (pairs : List (List ℕ)) (k t : ℕ) → pairs ≡ first_chunks 2 k bs → t < k →
     at (get_or pairs t []) 0 + at (get_or pairs t []) 1 * 256 ≡ stream_word (at bs) t

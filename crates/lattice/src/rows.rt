@@ -10,9 +10,9 @@ ghost use Rattle.lattice.specs.Lines.{at};
 ghost use Rattle.protocol.specs.Sets.{number};
 
 use crate::product::{multiply_row, turn};
-use protocol::set::Set;
 use crate::values::read_residues;
 use keccak::shake128::shake128;
+use protocol::set::Set;
 
 /// The bytes of row i: SHAKE128 over i and seedA.
 fn row_bytes(i: u16, seed: &[u8; 16], bytes: &mut [u8])

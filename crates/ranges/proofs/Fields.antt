@@ -1,9 +1,8 @@
 -- The tests of a field's part are those of the record.
-use Rattle.std.proofs.Common.{◌≡◌, ℕ, ◌+◌, ◌*◌, ◌/◌, ◌<◌, ◌≤◌, zero, suc, take, drop, slice_index_or, Bool, true, false, not, leb, List, [], map, length, get_or, ℤ, Ok, Result, sym, ap, ◌∙◌, arith, w8, SFits, to_z, of_z}
+use Rattle.std.proofs.Common.{◌≡◌, ℕ, ◌+◌, ◌*◌, ◌/◌, ◌<◌, ◌≤◌, take, drop, Bool, true, false, not, leb, List, [], map, length, get_or, ℤ, Ok, Result, sym, ap, ◌∙◌, arith, w8, SFits, to_z, of_z}
 use Rattle.std.specs.List.{range_with_len}
 use Rattle.std.proofs.lemmas.List.FromFn.{fill_by_all, get_or-map-range_with_len, length-map-range_with_len}
 use Rattle.std.proofs.lemmas.Int.{to_z-of_z}
-use Rattle.std.proofs.lemmas.List.{drop-drop}
 use Rattle.std.specs.Simd.{first_chunks}
 use Rattle.std.specs.Int.{w16, from_le_bytes}
 use Rattle.protocol.specs.declared.fault.Fault.{Fault}
@@ -13,6 +12,7 @@ use Rattle.protocol.specs.Bytes.{part, word}
 use Rattle.protocol.specs.Parameters.{modulus}
 use Rattle.protocol.specs.Sampling.{signed, beyond}
 use Rattle.protocol.specs.Tests.{Test, first_failing}
+use Rattle.digest.proofs.Chunks.{chunk_at}
 use Rattle.record.specs.declared.view.Part.{Part}
 use Rattle.record.specs.Parts.{Lies}
 use Rattle.guarantee.proofs.Passing.{passed, all_tests}
@@ -68,12 +68,6 @@ module _ (answer : Result (Unit {0}) Fault) (p : Part) (bytes : List ℕ) (at n 
   audited_say b says =
       says ∙ (λ i. first_failing (audited_tests (l.holds i) (l.begins i) b) (tt {0})) ∙ ap (λ ts. first_failing ts (tt {0})) (audited_of bytes at n b within)
 
--- pair i of the bytes
-pair_is : (n k i : ℕ) (xs : List ℕ) (d : List ℕ) → i < k → slice_index_or (first_chunks n k xs) i d ≡ take n (drop (i * n) xs)
-pair_is n zero i xs d h = absurd (omega arith)
-pair_is n (suc k) zero xs d h = ap (λ m. take n (drop m xs)) (let e : 0 ≡ 0 * n = omega arith in e)
-pair_is n (suc k) (suc i) xs d h = pair_is n k i (drop n xs) d (omega arith) ∙ ap (take n) (drop-drop (i * n) n xs ∙ ap (λ m. drop m xs) (let e : n + i * n ≡ suc i * n = omega arith in e))
-
 -- the tests of n entries, where a field has two bytes for each
 pub halved : (f : ℕ → Test) (n : ℕ) → first_failing (map f (range_with_len 0 n)) (tt {0}) ≡ first_failing (map f (range_with_len 0 (2 * n / 2))) (tt {0})
 halved f n = ap (λ m. first_failing (map f (range_with_len 0 m)) (tt {0})) (let e : n ≡ 2 * n / 2 = omega arith in e)
@@ -92,4 +86,4 @@ pub entry_is : (bytes : List ℕ) (pairs : List (List ℕ)) (i x : ℕ) → pair
     x ≡ from_le_bytes w16 (get_or pairs i []) → x ≡ word bytes (2 * i)
 entry_is bytes pairs i x e h r =
     r ∙ (let two : from_le_bytes w16 (get_or pairs i []) ≡ get_or (get_or pairs i []) 0 0 + 256 * get_or (get_or pairs i []) 1 0 = omega arith in two)
-    ∙ word_is bytes (get_or pairs i []) i (ap (λ z. get_or z i []) e ∙ pair_is 2 (length bytes / 2) i bytes [] h) (omega arith)
+    ∙ word_is bytes (get_or pairs i []) i (ap (λ z. get_or z i []) e ∙ chunk_at 2 (length bytes / 2) bytes i [] h) (omega arith)

@@ -1,15 +1,16 @@
 -- Seeds out of words: those beside the path to a leaf, and how long each is.
-use Rattle.std.proofs.Common.{◌≡◌, ℕ, zero, suc, ◌+◌, ◌*◌, ◌^◌, ◌<◌, ◌≤◌, List, [], ◌∷◌, ◌++◌, map, length, get_or, take, drop, sym, refl, ap, ◌∙◌, add-one, arith}
+use Rattle.std.proofs.Common.{◌≡◌, ℕ, zero, suc, ◌+◌, ◌*◌, ◌^◌, ◌<◌, ◌≤◌, List, [], ◌∷◌, ◌++◌, map, length, get_or, sym, refl, ap, ◌∙◌, add-one, arith}
 use Rattle.std.specs.List.{range_with_len, flat_map}
 use Rattle.std.specs.Simd.{first_chunks}
 use Rattle.std.proofs.lemmas.List.FromFn.{get_or-map-range_with_len, map-range_with_len_more}
-use Rattle.std.proofs.lemmas.List.{flat_map_more, length-drop, length-take, drop-drop}
+use Rattle.std.proofs.lemmas.List.{flat_map_more, length-drop, length-take}
 use Rattle.protocol.specs.Bytes.{part, le16}
 use Rattle.protocol.specs.Sharing.{parts}
 use Rattle.protocol.specs.Streams.{Digest}
 use Rattle.protocol.specs.Tree.{child, above, beside, sibling_nodes, siblings}
 use Rattle.seedtree.specs.Grown.{Grown}
 use Rattle.seedtree.specs.Words.{seed_in}
+use Rattle.digest.proofs.Chunks.{chunk_at}
 use Rattle.seedtree.proofs.Paths.{beside_small}
 
 -- the node beside the path at depth t + 1
@@ -46,9 +47,4 @@ length-seed words k h = length-words (part words (16 * k) 16) ∙ simp (length-t
 
 -- a chunk of 32 bytes is the seed at its place
 pub chunk_is : (k : ℕ) (bytes : List ℕ) (t : ℕ) → t < k → get_or (first_chunks 32 k bytes) t [] ≡ part bytes (32 * t) 32
-chunk_is zero bytes t less = absurd (omega arith)
-chunk_is (suc k) bytes zero less = refl
-chunk_is (suc k) bytes (suc t) less =
-    chunk_is k (drop 32 bytes) t (omega arith)
-    ∙ ap (take 32) (drop-drop (32 * t) 32 bytes)
-    ∙ ap (λ n. part bytes n 32) (let e : 32 + 32 * t ≡ 32 * suc t = omega arith in e)
+chunk_is k bytes t less = chunk_at 32 k bytes t [] less ∙ ap (λ n. part bytes n 32) (let e : t * 32 ≡ 32 * t = omega arith in e)
