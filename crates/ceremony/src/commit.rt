@@ -23,7 +23,9 @@ use protocol::fault::Fault;
 use protocol::header::Header;
 use record::header::check_header;
 use shares::drawing::draw_values;
+use sharing::held::Holder;
 use sharing::memory::{Work, cut_work};
+use std::marker::PhantomData;
 use texts::holder::digest_text6;
 
 /// Tests attributes and working memory against what the header tells.
@@ -64,9 +66,14 @@ fn digest_commitments<D: DigestMaker>(
         scratch,
     } = cut_work(header, words);
     draw_values(short, header, salt, master, values);
-    let d1 = digest_text6(
-        short, long, header, salt, master, attributes, values, scratch,
-    );
+    let holder = Holder {
+        header,
+        salt,
+        master,
+        values,
+        of: PhantomData,
+    };
+    let d1 = digest_text6(short, long, holder, attributes, scratch);
     short.begin();
     long.begin();
     d1
@@ -88,7 +95,7 @@ fn commit_in<D: DigestMaker>(
 {
     let header = check_header(header)?;
     test_lent(header, attributes, words)?;
-    let salt = ShortBytes::new(salt).unwrap();
+    let salt = ShortBytes::from(*salt);
     let d1 = digest_commitments(short, long, header, &salt, master, attributes, words);
     Ok(Committed {
         header,

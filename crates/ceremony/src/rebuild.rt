@@ -1,9 +1,8 @@
 //! Digests made anew, and held to those that the ceremony keeps.
 ghost use Rattle.std.specs.Prelude.{◌≡◌, ℕ, ◌<◌, ◌≤◌, [], ◌∷◌, length, slice_index};
 ghost use Rattle.protocol.specs.Ceremony.{secret_of, rebuilt_test};
-ghost use Rattle.protocol.specs.Flags.{ones};
 ghost use Rattle.protocol.specs.Of.{parameters};
-ghost use Rattle.protocol.specs.Parameters.{width, sigma};
+ghost use Rattle.protocol.specs.Parameters.{width};
 ghost use Rattle.protocol.specs.Prover.{honest6, honest7};
 ghost use Rattle.protocol.specs.Streams.{drawn};
 ghost use Rattle.protocol.specs.Tests.{first_failing};
@@ -15,17 +14,18 @@ ghost use Rattle.sharing.specs.Sizes.{scratch_words};
 
 use digest::maker::DigestMaker;
 use digest::short::ShortBytes;
-use digest::shorts::same_bytes;
 use protocol::fault::Fault;
 use protocol::header::Header;
 use shares::drawing::draw_values;
+use sharing::held::{Asked, Holder};
+use std::marker::PhantomData;
 use texts::holder::{digest_text6, digest_text7};
 
 /// A digest that was made anew must be the one that is kept.
 fn test_rebuilt(anew: &ShortBytes, kept: &ShortBytes) -> Result<(), Fault>
     ensures { result ≡ first_failing (rebuilt_test (short_bytes anew.now) (short_bytes kept.now) ∷ []) tt }
 {
-    if same_bytes(anew.as_slice(), kept.as_slice()) {
+    if anew.as_slice() == kept.as_slice() {
         Ok(())
     } else {
         Err(Fault::Rebuilt)
@@ -53,39 +53,34 @@ pub(crate) fn rebuild_first<D: DigestMaker>(
     ensures long { Holding D.DigestMaker.function [] (D.DigestMaker.means long.new) }
 {
     draw_values(short, header, salt, master, values);
-    let anew = digest_text6(
-        short, long, header, salt, master, attributes, values, scratch,
-    );
+    let holder = Holder {
+        header,
+        salt,
+        master,
+        values,
+        of: PhantomData,
+    };
+    let anew = digest_text6(short, long, holder, attributes, scratch);
     short.begin();
     long.begin();
     test_rebuilt(&anew, d1)
 }
 
-/// d2 of the values and the flags; both makers are left begun.
+/// d2 of a holder who was asked; both makers are left begun.
 pub(crate) fn make_second<D: DigestMaker>(
     short: &mut D,
     long: &mut D,
-    header: Header,
-    salt: &ShortBytes,
-    master: &[u8; 32],
+    asked: Asked<'_, D>,
     d1: &ShortBytes,
-    seed_a: &[u8; 16],
-    values: &[u16],
-    flags: &[u16],
     scratch: &mut [u16],
 ) -> ShortBytes
-    requires values { values.now ≡ value_residues D.DigestMaker.function (parameters header) (short_bytes salt.now) master.now }
-    requires plain { (k : ℕ) → slice_index flags.now k < 2 }
-    requires flags { length flags.now ≡ (parameters header).m }
-    requires kept { ones flags.now ≡ sigma (parameters header) }
-    requires scratch { scratch_words (parameters header) ≤ length scratch.old }
-    ensures digest { short_bytes result ≡ drawn D.DigestMaker.function (honest7 (scheme D.DigestMaker.function (parameters header)) (secret_of D.DigestMaker.function (parameters header) (short_bytes salt.now) master.now [] (short_bytes d1.now) seed_a.now flags.now)) (width (parameters header)) }
+    requires plain { (k : ℕ) → slice_index asked.flags.now k < 2 }
+    requires scratch { scratch_words (parameters asked.holder.header) ≤ length scratch.old }
+    ensures digest { let h = asked.entry.holder in let p = parameters h.header in short_bytes result ≡ drawn D.DigestMaker.function (honest7 (scheme D.DigestMaker.function p) (secret_of D.DigestMaker.function p (short_bytes h.salt.now) h.master.now [] (short_bytes d1.now) asked.entry.seed_a.now asked.entry.flags.now)) (width p) }
     ensures short { Holding D.DigestMaker.function [] (D.DigestMaker.means short.new) }
     ensures long { Holding D.DigestMaker.function [] (D.DigestMaker.means long.new) }
 {
-    let d2 = digest_text7(
-        short, long, header, salt, master, d1, seed_a, values, flags, scratch,
-    );
+    let d2 = digest_text7(short, long, asked, d1, scratch);
     short.begin();
     long.begin();
     d2

@@ -17,7 +17,7 @@ pub fn put_words(out: &mut [u8], at: usize, words: &[u16])
     requires { at + 2 * length words.now ≤ length out.old }
     ensures { out.new ≡ wrote at (flat_map le16 words.now) out.old }
 {
-    for i in 0..words.len() {
-        put(out, at + 2 * i, &words[i].to_le_bytes());
+    for (i, word) in words.iter().enumerate() {
+        put(out, at + 2 * i, &word.to_le_bytes());
     }
 }

@@ -11,4 +11,4 @@ pub returns : goal.returns
 returns c =
     c.put_words.ensures
     ∙ ap (λ ws. wrote c.args.at (flat_map le16 ws) c.args.out.now)
-    (secret_first (parameters c.args.header) c.args.flags.now c.args.values.now c.gather_kept.new.out c.entries.result _ c.gather_kept.ensures c.entries.ensures (simp length-take (omega arith)))
+    (secret_first (parameters c.args.kept.header) c.args.kept.flags.now c.args.values.now c.gather_kept.new.out c.entries.result _ c.gather_kept.ensures c.entries.ensures (simp length-take (omega arith)))

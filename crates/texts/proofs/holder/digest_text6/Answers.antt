@@ -10,20 +10,19 @@ use Rattle.texts.proofs.holder.digest_text6.Goals as goal
 
 pub feed_all6-requires : goal.feed_all6-requires
 feed_all6-requires g c = record {
-  values = c.requires.values;
   scratch = c.requires.scratch;
-  ready = ready6 c.encode_header.result c.args.salt.now c.args.attributes.now c.begin_text6.ensures (omega arith) (omega arith);
+  ready = ready6 c.encode_header.result c.args.holder.salt.now c.args.attributes.now c.begin_text6.ensures (omega arith) (omega arith);
 }
 
 pub returns : goal.returns
 unfolding honest6 holder_commitments
 returns g c =
     let F = g.D.DigestMaker.function in
-    let p = parameters c.args.header in
+    let p = parameters c.args.holder.header in
     let header = c.encode_header.result in
-    let salt = c.args.salt.now in
+    let salt = c.args.holder.salt.now in
     let attributes = c.args.attributes.now in
-    let rest : List ℕ = parts p.tau (holder_commitments F p (short_bytes salt) c.args.master.now) in
+    let rest : List ℕ = parts p.tau (holder_commitments F p (short_bytes salt) c.args.holder.master.now) in
     c.draw_short.ensures
     ∙ (λ i. first_bytes (whole6 header salt attributes c.begin_text6.ensures _ rest c.feed_all6.ensures i) (c.width.ensures i))
     ∙ ap (λ h. first_bytes (F (6 ∷ (h ++ (short_bytes salt ++ (attributes ++ rest))))) 32) c.encode_header.ensures.bytes

@@ -19,28 +19,22 @@ use Rattle.texts.proofs.holder.digest_text7.Goals as goal
 
 pub take_key-requires : goal.take_key-requires
 take_key-requires g c =
-    let p = parameters c.args.header in
-    let ready = ready7 c.args.salt.now c.args.d1.now c.args.flags.now c.args.seed_a.now c.begin_text7.ensures (omega arith) (omega arith) in
+    let p = parameters c.args.asked.holder.header in
+    let ready = ready7 c.args.asked.holder.salt.now c.args.d1.now c.args.asked.flags.now c.args.asked.seed_a.now c.begin_text7.ensures (omega arith) (omega arith) in
     record {
-      values = ap length c.requires.values ∙ length-values g.D.DigestMaker.function p (short_bytes c.args.salt.now) c.args.master.now;
-      flags = c.requires.flags;
-      kept = c.requires.kept;
       scratch = c.requires.scratch;
       ready = (ready.0, omega (arith, ready.1));
     }
 
 pub feed_all7-requires : goal.feed_all7-requires
 feed_all7-requires g c =
-    let p = parameters c.args.header in
-    let f : ℕ → ℕ = product_of p c.args.seed_a.now c.args.flags.now (at c.args.values.now) in
+    let p = parameters c.args.asked.holder.header in
+    let f : ℕ → ℕ = product_of p c.args.asked.seed_a.now c.args.asked.flags.now (at c.args.asked.holder.values.now) in
     let b : List ℕ = map f (range_with_len 0 (p.n * p.c)) in
     record {
-      values = c.requires.values;
-      flags = c.requires.flags;
-      kept = c.requires.kept;
       scratch = search rules;
       ready = ready_after _ _ (flat_map le16 b) (32768 + 64 * (256 * most_shown)) (64 * (256 * most_shown))
-          (ready7 c.args.salt.now c.args.d1.now c.args.flags.now c.args.seed_a.now c.begin_text7.ensures (omega arith) (omega arith))
+          (ready7 c.args.asked.holder.salt.now c.args.d1.now c.args.asked.flags.now c.args.asked.seed_a.now c.begin_text7.ensures (omega arith) (omega arith))
           (omega (arith, length-coded b, length-map-range_with_len f 0 (p.n * p.c))) c.take_key.ensures;
     }
 
@@ -48,16 +42,16 @@ pub returns : goal.returns
 unfolding honest7 holder_shares
 returns g c =
     let F = g.D.DigestMaker.function in
-    let p = parameters c.args.header in
-    let salt = c.args.salt.now in
+    let p = parameters c.args.asked.holder.header in
+    let salt = c.args.asked.holder.salt.now in
     let d1 = c.args.d1.now in
-    let flags = c.args.flags.now in
-    let seed_a = c.args.seed_a.now in
-    let master = c.args.master.now in
-    let values = c.args.values.now in
+    let flags = c.args.asked.flags.now in
+    let seed_a = c.args.asked.seed_a.now in
+    let master = c.args.asked.holder.master.now in
+    let values = c.args.asked.holder.values.now in
     let b : List ℕ = map (product_of p seed_a flags (at values)) (range_with_len 0 (p.n * p.c)) in
     let rest : List ℕ = parts p.tau (holder_shares F p (short_bytes salt) master seed_a flags) in
     c.draw_short.ensures
     ∙ (λ i. first_bytes (whole7 salt d1 flags seed_a c.begin_text7.ensures _ _ (flat_map le16 b) rest c.take_key.ensures c.feed_all7.ensures i) (c.width.ensures i))
     ∙ ap (λ k. first_bytes (F (7 ∷ (short_bytes salt ++ (short_bytes d1 ++ (flags ++ (seed_a ++ (flat_map le16 k ++ rest))))))) 32)
-    (key_is F p (short_bytes salt) master [] (short_bytes d1) seed_a flags values c.requires.values c.requires.flags c.requires.kept)
+    (key_is F p (short_bytes salt) master [] (short_bytes d1) seed_a flags values c.args.asked.holder.drawn c.args.asked.long c.args.asked.chosen)

@@ -6,20 +6,19 @@ use Rattle.sharing.specs.Parts.{holder_commitments, most_committed}
 use Rattle.texts.proofs.Lengths.{all_commitments_most}
 use Rattle.texts.proofs.holder.feed_all6.Goals as goal
 
-pub loop-e-init : goal.loop-e-init
-loop-e-init g c = took_none _
+pub loop-number-init : goal.loop-number-init
+loop-number-init g c = took_none _
 
 pub feed_text6-requires : goal.feed_text6-requires
 feed_text6-requires g c =
-    let p = parameters c.args.header in
-    let most = all_commitments_most g.D.DigestMaker.function p (short_bytes c.args.salt.now) c.args.master.now (omega arith) (omega arith) (omega arith) c.loop-e.e in
+    let p = parameters c.args.holder.header in
+    let most = all_commitments_most g.D.DigestMaker.function p (short_bytes c.args.holder.salt.now) c.args.holder.master.now (omega arith) (omega arith) (omega arith) c.loop-number.number in
     record {
-      values = c.requires.values;
       scratch = search rules;
-      ready = ready_after _ _ _ (64 * most_committed) most_committed c.requires.ready (search rules) c.loop-e.invariant;
+      ready = ready_after _ _ _ (64 * most_committed) most_committed c.requires.ready (search rules) c.loop-number.invariant;
     }
 
-pub loop-e-preserved : goal.loop-e-preserved
-loop-e-preserved g c =
-    took_next c.loop-e.e (holder_commitments g.D.DigestMaker.function (parameters c.args.header) (short_bytes c.args.salt.now) c.args.master.now)
-    c.loop-e.invariant c.feed_text6.ensures
+pub loop-number-preserved : goal.loop-number-preserved
+loop-number-preserved g c =
+    took_next c.loop-number.number (holder_commitments g.D.DigestMaker.function (parameters c.args.holder.header) (short_bytes c.args.holder.salt.now) c.args.holder.master.now)
+    c.loop-number.invariant c.feed_text6.ensures

@@ -5,7 +5,7 @@ use Rattle.digest.specs.Short.{short_bytes}
 use Rattle.sharing.specs.Parts.{holder_commitments}
 use Rattle.texts.proofs.holder.feed_all6.Given as goal
 
-abbrev pub invariant-loop-e : goal.invariant-loop-e
-invariant-loop-e g l =
-    Took (parts l.e (holder_commitments g.D.DigestMaker.function (parameters l.header) (short_bytes l.salt) l.master))
+abbrev pub invariant-loop-number : goal.invariant-loop-number
+invariant-loop-number g l =
+    Took (parts l.number (holder_commitments g.D.DigestMaker.function (parameters l.holder.header) (short_bytes l.holder.salt.now) l.holder.master.now))
     (g.D.DigestMaker.means l.initial.long) (g.D.DigestMaker.means l.long)

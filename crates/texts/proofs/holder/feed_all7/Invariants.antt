@@ -5,7 +5,7 @@ use Rattle.digest.specs.Short.{short_bytes}
 use Rattle.sharing.specs.Parts.{holder_shares}
 use Rattle.texts.proofs.holder.feed_all7.Given as goal
 
-abbrev pub invariant-loop-e : goal.invariant-loop-e
-invariant-loop-e g l =
-    Took (parts l.e (holder_shares g.D.DigestMaker.function (parameters l.header) (short_bytes l.salt) l.master l.seed_a l.flags))
+abbrev pub invariant-loop-number : goal.invariant-loop-number
+invariant-loop-number g l =
+    Took (parts l.number (holder_shares g.D.DigestMaker.function (parameters l.asked.holder.header) (short_bytes l.asked.holder.salt.now) l.asked.holder.master.now l.asked.seed_a.now l.asked.flags.now))
     (g.D.DigestMaker.means l.initial.long) (g.D.DigestMaker.means l.long)
