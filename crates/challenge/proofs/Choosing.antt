@@ -4,22 +4,31 @@ use Rattle.std.proofs.lemmas.List.FromFn.{fill_by_all, length-map-range_with_len
 use Rattle.protocol.specs.Streams.{first_bytes}
 use Rattle.protocol.specs.Selection.{little, keep, picks, selected, hidden_parties}
 
+-- byte k of what was read, which stands at the place p of the stream
+pub byte_is : (s : ℕ → ℕ) (at n : ℕ) (bytes : List ℕ) → bytes ≡ first_bytes (λ i. s (at + i)) n → (k p : ℕ) → k < n → at + k ≡ p → get_or bytes k 0 ≡ s p
+unfolding first_bytes
+byte_is s at n bytes e k p less place =
+    ap (λ b. get_or b k 0) e ∙ get_or-map-range_with_len (λ i. s (at + i)) 0 n k k 0 less (omega arith) ∙ ap s place
+
 -- the eight bytes read are the number
 pub number_is : (s : ℕ → ℕ) (at x : ℕ) (bytes : List ℕ) → bytes ≡ first_bytes (λ i. s (at + i)) 8 →
     x ≡ get_or bytes 0 0 + get_or bytes 1 0 * 256 + get_or bytes 2 0 * 65536 + get_or bytes 3 0 * 16777216 + get_or bytes 4 0 * 4294967296
     + get_or bytes 5 0 * 1099511627776 + get_or bytes 6 0 * 281474976710656 + get_or bytes 7 0 * 72057594037927936 →
     x ≡ little s at 8
-unfolding first_bytes
 number_is s at x bytes e h =
-    let p0 : get_or bytes 0 0 ≡ s (at) = ap (λ b. get_or b 0 0) e ∙ ap s (let z : at + 0 ≡ at = omega arith in z) in
-    let p1 : get_or bytes 1 0 ≡ s (at + 1) = ap (λ b. get_or b 1 0) e ∙ ap s (let z : at + 1 ≡ at + 1 = omega arith in z) in
-    let p2 : get_or bytes 2 0 ≡ s (at + 1 + 1) = ap (λ b. get_or b 2 0) e ∙ ap s (let z : at + 2 ≡ at + 1 + 1 = omega arith in z) in
-    let p3 : get_or bytes 3 0 ≡ s (at + 1 + 1 + 1) = ap (λ b. get_or b 3 0) e ∙ ap s (let z : at + 3 ≡ at + 1 + 1 + 1 = omega arith in z) in
-    let p4 : get_or bytes 4 0 ≡ s (at + 1 + 1 + 1 + 1) = ap (λ b. get_or b 4 0) e ∙ ap s (let z : at + 4 ≡ at + 1 + 1 + 1 + 1 = omega arith in z) in
-    let p5 : get_or bytes 5 0 ≡ s (at + 1 + 1 + 1 + 1 + 1) = ap (λ b. get_or b 5 0) e ∙ ap s (let z : at + 5 ≡ at + 1 + 1 + 1 + 1 + 1 = omega arith in z) in
-    let p6 : get_or bytes 6 0 ≡ s (at + 1 + 1 + 1 + 1 + 1 + 1) = ap (λ b. get_or b 6 0) e ∙ ap s (let z : at + 6 ≡ at + 1 + 1 + 1 + 1 + 1 + 1 = omega arith in z) in
-    let p7 : get_or bytes 7 0 ≡ s (at + 1 + 1 + 1 + 1 + 1 + 1 + 1) = ap (λ b. get_or b 7 0) e ∙ ap s (let z : at + 7 ≡ at + 1 + 1 + 1 + 1 + 1 + 1 + 1 = omega arith in z) in
-    omega arith
+    let b = byte_is s at 8 bytes e in
+    omega (
+      arith,
+      h,
+      b 0 (at) (omega arith) (omega arith),
+      b 1 (at + 1) (omega arith) (omega arith),
+      b 2 (at + 1 + 1) (omega arith) (omega arith),
+      b 3 (at + 1 + 1 + 1) (omega arith) (omega arith),
+      b 4 (at + 1 + 1 + 1 + 1) (omega arith) (omega arith),
+      b 5 (at + 1 + 1 + 1 + 1 + 1) (omega arith) (omega arith),
+      b 6 (at + 1 + 1 + 1 + 1 + 1 + 1) (omega arith) (omega arith),
+      b 7 (at + 1 + 1 + 1 + 1 + 1 + 1 + 1) (omega arith) (omega arith),
+    )
 
 -- one draw more, for value j
 pub picks_more : (draw : ℕ → ℕ) (m sigma j x : ℕ) (flags : List ℕ) → m - sigma ≤ j → flags ≡ picks draw m sigma (j - (m - sigma)) → x ≡ draw (j - (m - sigma)) →
@@ -41,4 +50,4 @@ unfolding first_bytes hidden_parties
 hidden_is s n tau drawn out e long each =
     fill_by_all (λ k. s k % n) out tau 0 long
     (λ k less. each k (let m = ap length e ∙ length-map-range_with_len (λ i. s (0 + i)) 0 tau in omega arith)
-    ∙ ap (λ b. b % n) (ap (λ b. get_or b k 0) e ∙ get_or-map-range_with_len (λ i. s (0 + i)) 0 tau k k 0 less (omega arith) ∙ ap s (zero-add k)))
+    ∙ ap (λ b. b % n) (byte_is s 0 tau drawn e k k less (zero-add k)))

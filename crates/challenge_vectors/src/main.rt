@@ -3,49 +3,23 @@
 //! the count of kept values.
 #![tactic(auto)]
 
-ghost use Rattle.std.specs.Prelude.{◌<◌};
+ghost use Rattle.std.specs.Prelude.{◌≤◌, length};
 
-use anyhow::anyhow;
+use anyhow::{Context, anyhow};
 use challenge::by_maker::{Derived, Drawn};
 use challenge::challenger::Challenger;
 use challenge::flags::{count_kept, pack};
 use challenge::selection::{choose_hidden, select_kept};
 use digest::maker::DigestMaker;
 use digest::short::ShortBytes;
+use hexadecimal::reading::decode;
+use hexadecimal::writing::Hex;
 use keccak::shake256::Shake256;
+use protocol::fault::Fault;
 use protocol::header::Header;
 use record::header::read_header;
 use sha512::stretched::Stretched;
-use std::alloc::{AllocError, Global};
-
-/// The value of a hexadecimal digit, and 0 for any other byte.
-fn digit(b: u8) -> u8
-    ensures { result < 16 }
-{
-    match b {
-        b'0'..=b'9' => b - b'0',
-        b'a'..=b'f' => b - b'a' + 10,
-        _ => 0,
-    }
-}
-
-fn unhex(heap: Global, text: &str) -> Result<Vec<u8>, AllocError> {
-    let mut bytes = Vec::new(heap);
-    for pair in text.as_bytes().chunks_exact(2) {
-        if let [high, low] = pair {
-            bytes.push(16 * digit(*high) + digit(*low))?;
-        }
-    }
-    Ok(bytes)
-}
-
-fn hex(heap: Global, bytes: &[u8]) -> Result<String, AllocError> {
-    let mut text = String::new(heap);
-    for b in bytes {
-        text.push_str(format!(in heap; "{b:02x}")?.as_str())?;
-    }
-    Ok(text)
-}
+use std::alloc::Global;
 
 /// The salt and both digests of a record.
 #[derive(Clone, Copy)]
@@ -55,7 +29,7 @@ struct Asked {
     d2: ShortBytes,
 }
 
-/// What a challenger chooses, into buffers of the sizes that the header calls for; false where one has another size.
+/// What a challenger chooses, into buffers of the sizes that the header calls for, and how many values it keeps.
 fn choose<C: Challenger>(
     challenger: &mut C,
     header: Header,
@@ -63,13 +37,10 @@ fn choose<C: Challenger>(
     flags: &mut [u16],
     bits: &mut [u8],
     hidden: &mut [u8],
-) -> bool {
-    if let Err(_) = select_kept(challenger, &asked.salt, &asked.d1, header, flags) {
-        return false;
-    }
-    if bits.len() > 4096 {
-        return false;
-    }
+) -> Result<u32, Fault>
+    requires { length bits.old ≤ 4096 }
+{
+    select_kept(challenger, &asked.salt, &asked.d1, header, flags)?;
     pack(flags, bits);
     choose_hidden(
         challenger,
@@ -78,8 +49,8 @@ fn choose<C: Challenger>(
         &asked.d2,
         header,
         hidden,
-    )
-    .is_ok()
+    )?;
+    count_kept(header, bits)
 }
 
 /// Prints what a challenger chooses.
@@ -93,41 +64,31 @@ fn show<C: Challenger>(
     let mut flags = vec![in heap; 0u16; header.m as usize]?;
     let mut hidden = vec![in heap; 0u8; header.tau as usize]?;
     let mut bits = vec![in heap; 0u8; header.flag_length()]?;
-    if !choose(
+    let count = choose(
         challenger,
         header,
         asked,
         flags.as_mut_slice(),
         bits.as_mut_slice(),
         hidden.as_mut_slice(),
-    ) {
-        return Err(anyhow!("another size"));
-    }
-    let Ok(count) = count_kept(header, bits.as_slice()) else {
-        return Err(anyhow!("another size"));
-    };
+    )
+    .map_err(|_| anyhow!("another size"))?;
     println!(rt;
         "{} {} {count}",
-        hex(heap, hidden.as_slice())?,
-        hex(heap, bits.as_slice())?
+        Hex(hidden.as_slice()),
+        Hex(bits.as_slice())
     )?;
     Ok(())
 }
 
+/// A salt or a digest, from hexadecimal text.
 fn short(heap: Global, text: &str) -> anyhow::Result<ShortBytes> {
-    match ShortBytes::new(unhex(heap, text)?.as_slice()) {
-        Some(bytes) => Ok(bytes),
-        None => Err(anyhow!("too long")),
-    }
+    ShortBytes::new(decode(heap, text)?.as_slice()).context("too long")
 }
 
+/// A station value, from hexadecimal text.
 fn station(heap: Global, text: &str) -> anyhow::Result<[u8; 32]> {
-    let mut value = [0; 32];
-    let bytes = unhex(heap, text)?;
-    if bytes.len() == 32 {
-        value.copy_from_slice(bytes.as_slice());
-    }
-    Ok(value)
+    <[u8; 32]>::try_from(decode(heap, text)?.as_slice()).map_err(|_| anyhow!("not 32 bytes"))
 }
 
 /// One line, by makers of one kind.
@@ -141,9 +102,7 @@ fn answer<D: DigestMaker + Drop>(rt: &HostRuntime, fields: &[&str]) -> anyhow::R
         d1: short(heap, d1)?,
         d2: short(heap, d2)?,
     };
-    let Ok(header) = read_header(unhex(heap, header)?.as_slice()) else {
-        return Err(anyhow!("no header"));
-    };
+    let header = read_header(decode(heap, header)?.as_slice()).map_err(|_| anyhow!("no header"))?;
     if *challenger == "derived" {
         let mut derived: Derived<D> = Derived::new();
         return show(rt, &mut derived, header, &asked);
