@@ -4,11 +4,11 @@ use Rattle.std.specs.Int.{from_be_bytes, w64}
 use Rattle.sha512.specs.Sha512.{block_word, schedule}
 use Rattle.sha512.proofs.Schedules.{block_word_is, schedule_block, schedule_next}
 use Rattle.sha512.proofs.Blocks.{get_or-first_chunks}
-use Rattle.sha512.proofs.compression.scheduled.Goals as goal
+use Rattle.sha512.proofs.compression.write_schedule.Goals as goal
 
 pub loop-t-init : goal.loop-t-init
 unfolding schedule
-loop-t-init c = (refl, refl)
+loop-t-init c = (omega arith, refl)
 
 pub loop-t-preserved : goal.loop-t-preserved
 loop-t-preserved c =
