@@ -93,6 +93,7 @@ pub(crate) fn word_bytes(words: &[u64; 8]) -> [u8; 64]
     ensures { result ≡ word_bytes words.now }
 {
     let mut bytes = [0; 64];
+    // By place: of what is written through `as_chunks_mut` a proof knows nothing, and byte by byte it takes longer.
     for (k, word) in words.iter().enumerate() {
         bytes[8 * k..8 * k + 8].copy_from_slice(&word.to_be_bytes());
     }

@@ -23,19 +23,22 @@ word_long : (bytes ys : List ℕ) (k m : ℕ) → length bytes ≡ 64 → k < 8 
 word_long bytes ys k m long below eight eight' = simp (length-append, length-take, length-drop) (omega arith)
 
 -- a word's bytes written behind those of the words before it
-word_more : (words bytes ys : List ℕ) (k m : ℕ) → length bytes ≡ 64 → k < 8 → m ≡ 8 → ys ≡ to_be_bytes w64 (get_or words k 0)
-    → ((j : ℕ) → j < 8 * k → get_or bytes j 0 ≡ byte_of words j) → (j : ℕ) → j < 8 * (k + 1) → get_or (put_mid (8 * k) m bytes ys) j 0 ≡ byte_of words j
+word_more : (words bytes ys : List ℕ) (k m : ℕ) → length bytes ≡ 64 → k < 8 → m ≡ 8
+    → ys ≡ to_be_bytes w64 (get_or words k 0)
+    → ((j : ℕ) → j < 8 * k → get_or bytes j 0 ≡ byte_of words j)
+    → (j : ℕ) → j < 8 * (k + 1) → get_or (put_mid (8 * k) m bytes ys) j 0 ≡ byte_of words j
 unfolding byte_of
 word_more words bytes ys k m long below eight is old j h =
+    let rest : List ℕ = drop m (drop (8 * k) bytes) in
     let eight' : length ys ≡ 8 = ap length is in
     let front : length (take (8 * k) bytes) ≡ 8 * k = length-take-le (8 * k) bytes (omega arith) in
     elim (cases_lt j (8 * k)) [
-      | inl lt ↦ get_or_append_left (take (8 * k) bytes) (ys ++ drop m (drop (8 * k) bytes)) 0 j (omega arith) ∙ get_or-take (8 * k) bytes j 0 lt ∙ old j lt
+      | inl lt ↦ get_or_append_left (take (8 * k) bytes) (ys ++ rest) 0 j (omega arith) ∙ get_or-take (8 * k) bytes j 0 lt ∙ old j lt
       | inr ge ↦
           let word : k ≡ j / 8 = omega arith in
           let place : j - 8 * k ≡ j % 8 = omega arith in
-          get_or-append_right (take (8 * k) bytes) (ys ++ drop m (drop (8 * k) bytes)) (8 * k) j 0 front ge
-          ∙ get_or_append_left ys (drop m (drop (8 * k) bytes)) 0 (j - 8 * k) (omega arith)
+          get_or-append_right (take (8 * k) bytes) (ys ++ rest) (8 * k) j 0 front ge
+          ∙ get_or_append_left ys rest 0 (j - 8 * k) (omega arith)
           ∙ ap₂ (λ x i. get_or x i 0) is place ∙ ap (λ n. get_or (to_be_bytes w64 (get_or words n 0)) (j % 8) 0) word
           ∙ byte_of_word (get_or words (j / 8) 0) (j % 8) (omega arith)
     ]
