@@ -4,7 +4,8 @@ use Rattle.std.specs.List.{concat}
 use Rattle.std.specs.Simd.{first_chunks}
 use Rattle.std.proofs.lemmas.List.{take-append-drop, take-take, drop-take, drop-drop}
 
-pub get_or-first_chunks : {X : Type 0} (n k : ℕ) (xs : List X) (i : ℕ) (d : List X) → i < k → get_or (first_chunks n k xs) i d ≡ take n (drop (i * n) xs)
+pub get_or-first_chunks : {X : Type 0} (n k : ℕ) (xs : List X) (i : ℕ) (d : List X) → i < k
+    → get_or (first_chunks n k xs) i d ≡ take n (drop (i * n) xs)
 get_or-first_chunks n zero xs i d below = absurd (not-suc-le-zero below)
 get_or-first_chunks n (suc k) xs zero d below =
     let e : 0 ≡ 0 * n = omega arith in

@@ -44,4 +44,5 @@ schedule_block b w n x lt low inv is = more b w n x lt inv (is ∙ cond_below n 
 
 pub schedule_next : (b w : List ℕ) (n x : ℕ) → n < length w → 16 ≤ n → take n w ≡ schedule b n → x ≡ next_word w n
     → take (n + 1) (set w n x) ≡ schedule b (n + 1)
-schedule_next b w n x lt high inv is = more b w n x lt inv (cond_above n 16 (block_word b n) (next_word (take n w) n) x high (is ∙ sym (next_take w n high)))
+schedule_next b w n x lt high inv is =
+    more b w n x lt inv (cond_above n 16 (block_word b n) (next_word (take n w) n) x high (is ∙ sym (next_take w n high)))

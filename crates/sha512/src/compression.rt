@@ -47,20 +47,18 @@ fn next_word(schedule: &[u64; 80], t: usize) -> u64
         .wrapping_add(schedule[t - 16])
 }
 
-/// The message schedule of a block.
-fn scheduled(block: &[u8; 128]) -> [u64; 80]
-    ensures { result ≡ schedule block.now 80 }
+/// Writes the message schedule of a block, in place: as a result it would be copied, and hashing would take longer.
+fn write_schedule(words: &mut [u64; 80], block: &[u8; 128])
+    ensures { words.new ≡ schedule block.now 80 }
 {
-    let mut words = [0; 80];
     let (chunks, _) = block.as_chunks::<8>();
     for (t, chunk) in chunks.iter().enumerate() {
         words[t] = u64::from_be_bytes(*chunk);
     }
     // Each further word is made of four before it, which no iterator gives: an index.
     for t in 16..80 {
-        words[t] = next_word(&words, t);
+        words[t] = next_word(words, t);
     }
-    words
 }
 
 /// One round on the working words, with the round's constant and its word of the schedule.
@@ -109,8 +107,8 @@ fn added(words: [u64; 8], v: [u64; 8]) -> [u64; 8]
 pub(crate) fn compress(words: &mut [u64; 8], block: &[u8; 128])
     ensures { words.new ≡ compressed words.old block.now }
 {
-    let schedule = scheduled(block);
+    let mut schedule = [0; 80];
+    write_schedule(&mut schedule, block);
     let v = all_rounds(*words, &schedule);
-    let sums = added(*words, v);
-    *words = sums;
+    *words = added(*words, v);
 }

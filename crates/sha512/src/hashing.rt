@@ -7,7 +7,6 @@ ghost use Rattle.sha512.specs.Hashing.{HasTaken, ended};
 use crate::compression::compress;
 use crate::hasher::Hasher;
 use crate::tables::INITIAL_WORDS;
-use std::array;
 
 /// Bytes of a block.
 const BLOCK: usize = 128;
@@ -76,17 +75,16 @@ impl Hasher {
     }
 
     /// The words of the hash of the text that was taken.
-    pub(crate) fn finish(self) -> [u64; 8]
+    pub(crate) fn finish(mut self) -> [u64; 8]
         ensures { result ≡ ended self [] }
     {
         let bits = (self.total as u128 * 8).to_be_bytes();
         let zeros = (239 - self.filled()) % BLOCK;
         let mut mark = [0; BLOCK];
         mark[0] = 0x80;
-        let mut last = self;
-        last.take(&mark[..zeros + 1]);
-        last.take(&bits);
-        last.words
+        self.take(&mark[..zeros + 1]);
+        self.take(&bits);
+        self.words
     }
 }
 
@@ -94,5 +92,10 @@ impl Hasher {
 pub(crate) fn word_bytes(words: &[u64; 8]) -> [u8; 64]
     ensures { result ≡ word_bytes words.now }
 {
-    array::from_fn(|k| words[k / 8].to_be_bytes()[k % 8])
+    let mut bytes = [0; 64];
+    // By place: of what is written through `as_chunks_mut` a proof knows nothing, and byte by byte it takes longer.
+    for (k, word) in words.iter().enumerate() {
+        bytes[8 * k..8 * k + 8].copy_from_slice(&word.to_be_bytes());
+    }
+    bytes
 }

@@ -1,5 +1,5 @@
 //! The digest maker that stretches SHA-512 to a stream.
-ghost use Rattle.std.specs.Prelude.{◌≡◌, ℕ, ◌+◌, ◌-◌, ◌/◌, ◌%◌, ◌<◌, ◌≤◌, ◌&&◌, [], length, replicate, slice_index, is_ok, nat_le, IfErr, IfOk};
+ghost use Rattle.std.specs.Prelude.{◌≡◌, ◌+◌, ◌/◌, ◌≤◌, ◌&&◌, [], length, replicate, is_ok, nat_le, IfErr, IfOk};
 ghost use Rattle.digest.specs.Making.{limit};
 ghost use Rattle.protocol.specs.Streams.{first_bytes};
 ghost use Rattle.sha512.specs.Sha512.{initial};
@@ -22,14 +22,14 @@ pub struct Stretched {
     drawn: u64,
     /// The block of the stream of which a part was drawn.
     block: [u8; 64],
-    ghost taken_limit: { hasher.total ≤ 4294967295 },
-    ghost drawn_limit: { drawn ≤ 4294967295 },
+    ghost taken_limit: { hasher.total ≤ limit },
+    ghost drawn_limit: { drawn ≤ limit },
     ghost kept_block: { KeptBlock hasher drawn block },
 }
 
 /// Block `number` of the stream of the text that the hasher has taken.
 fn stream_block(hasher: &Hasher, number: u32) -> [u8; 64]
-    requires room { hasher.now.total ≤ 4294967295 }
+    requires room { hasher.now.total ≤ limit }
     ensures { result ≡ stream_block hasher.now [] number }
 {
     let mut whole = *hasher;

@@ -11,5 +11,6 @@ returns c =
     let front : List ℕ = take (z + 1) (0x80 ∷ replicate 127 0) in
     let is : z ≡ zeros c.args.self.total = omega arith in
     ended_padded c.args.self c.take-2.new.self
-    (subst (λ b. HasTaken b c.args.self c.take-2.new.self) (padding_is c.args.self.total z c.to_be_bytes-bits.result is c.to_be_bytes-bits.ensures)
+    (subst (λ b. HasTaken b c.args.self c.take-2.new.self)
+    (padding_is c.args.self.total z c.to_be_bytes-bits.result is c.to_be_bytes-bits.ensures)
     (taken_more front c.to_be_bytes-bits.result c.args.self c.take.new.self c.take-2.new.self c.take.ensures c.take-2.ensures))

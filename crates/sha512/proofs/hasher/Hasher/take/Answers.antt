@@ -9,18 +9,20 @@ use Rattle.sha512.proofs.hasher.Hasher.take.Goals as goal
 pub loop-block-init : goal.loop-block-init
 loop-block-init c = (
   omega (arith, c.take_few-2.ensures.total, c.split_at.ensures.front_len),
-  subst (λ x. HasTaken x c.args.self.now c.take_few-2.new.self) (c.split_at.ensures.front ∙ sym (append-nil (take (128 - c.filled-room.result) c.args.bytes.now))) c.take_few-2.ensures,
+  subst (λ x. HasTaken x c.args.self.now c.take_few-2.new.self)
+      (c.split_at.ensures.front ∙ sym (append-nil (take (128 - c.filled-room.result) c.args.bytes.now))) c.take_few-2.ensures,
 )
 
 pub loop-block-preserved : goal.loop-block-preserved
 loop-block-preserved c =
     let front : List ℕ = take (128 - c.filled-room.result) c.args.bytes.now in
-    let more = taken_more (front ++ concat (take c.loop-block.block-index c.as_chunks.result.0.now)) _ c.args.self.now c.loop-block.self c.take_block.new.self
+    let blocks : List (List ℕ) = c.as_chunks.result.0.now in
+    let more = taken_more (front ++ concat (take c.loop-block.block-index blocks)) _ c.args.self.now c.loop-block.self c.take_block.new.self
     c.loop-block.invariant.1 c.take_block.ensures.taken in (
       c.take_block.ensures.none,
       subst (λ x. HasTaken x c.args.self.now c.take_block.new.self)
-          (append_assoc front (concat (take c.loop-block.block-index c.as_chunks.result.0.now)) _
-          ∙ ap (λ x. front ++ x) (sym (concat_more c.as_chunks.result.0.now c.loop-block.block-index [] c.loop-block-test.true))) more,
+          (append_assoc front (concat (take c.loop-block.block-index blocks)) _
+          ∙ ap (λ x. front ++ x) (sym (concat_more blocks c.loop-block.block-index [] c.loop-block-test.true))) more,
     )
 
 pub take_few-requires-3 : goal.take_few-requires-3
@@ -30,8 +32,8 @@ pub returns : goal.returns
 returns c =
     let front : List ℕ = take (128 - c.filled-room.result) c.args.bytes.now in
     let blocks : List (List ℕ) = c.as_chunks.result.0.now in
-    let all = taken_more (front ++ concat (take c.loop-block.block-index blocks)) c.as_chunks.result.1.now c.args.self.now c.loop-block.self c.take_few-3.new.self
-    c.loop-block.invariant.1 c.take_few-3.ensures in
+    let all = taken_more (front ++ concat (take c.loop-block.block-index blocks)) c.as_chunks.result.1.now c.args.self.now c.loop-block.self
+    c.take_few-3.new.self c.loop-block.invariant.1 c.take_few-3.ensures in
     subst (λ x. HasTaken x c.args.self.now c.take_few-3.new.self)
     (ap (λ bs. (front ++ concat bs) ++ c.as_chunks.result.1.now) (take_all c.loop-block.block-index blocks c.loop-block-test.false)
     ∙ append_assoc front (concat blocks) c.as_chunks.result.1.now

@@ -8,10 +8,11 @@ use Rattle.sha512.proofs.stretched.Stretched.fill.Goals as goal
 
 pub loop-byte-preserved : goal.loop-byte-preserved
 loop-byte-preserved c =
-    let at : c.refresh.new.self.drawn ≡ c.args.self.now.drawn + c.loop-byte.byte-index = c.refresh.ensures.drawn ∙ c.loop-byte.invariant.1 in
+    let at : c.refresh.new.self.drawn ≡ c.args.self.now.drawn + c.loop-byte.byte-index =
+    c.refresh.ensures.drawn ∙ c.loop-byte.invariant.1 in
     let block : c.refresh.new.self.block ≡ stream_block c.args.self.now.hasher [] (c.refresh.new.self.drawn / 64) =
     c.refresh.ensures.block ∙ ap₂ (λ s (n : ℕ). stream_block s [] (n / 64)) c.loop-byte.invariant.0 (sym c.refresh.ensures.drawn) in
-    let byte = byte_drawn c.args.self.now.hasher c.refresh.new.self.block c.args.self.now.drawn c.loop-byte.byte-index c.refresh.new.self.drawn block at in
+    let byte = byte_drawn c.args.self.now.hasher _ c.args.self.now.drawn c.loop-byte.byte-index c.refresh.new.self.drawn block at in
     let f : ℕ → ℕ = stream_from c.args.self.now.hasher c.args.self.now.drawn [] in (
       c.refresh.ensures.hasher ∙ c.loop-byte.invariant.0,
       omega (arith, at),
