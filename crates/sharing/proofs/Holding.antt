@@ -1,8 +1,7 @@
 -- What a holder computes from its tree is its part of the texts.
-use Rattle.std.proofs.Common.{◌≡◌, ℕ, ◌<◌, eqb, List, [], ◌++◌, map, length, ap, ◌∙◌, arith}
+use Rattle.std.proofs.Common.{◌≡◌, ℕ, ◌<◌, List, ◌++◌, map, length, ap, ◌∙◌, arith}
 use Rattle.std.specs.List.{range_with_len, flat_map}
 use Rattle.std.proofs.lemmas.List.FromFn.{length-map-range_with_len}
-use Rattle.std.proofs.lemmas.Bool.{cond-false, ne_eqb}
 use Rattle.protocol.specs.Bytes.{le16}
 use Rattle.protocol.specs.Ceremony.{root, value_word}
 use Rattle.protocol.specs.Group.{Entries, Lawful, total}
@@ -25,7 +24,7 @@ use Rattle.shares.specs.Drawing.{value_residues, share}
 use Rattle.shares.specs.Shown.{shown}
 use Rattle.shares.proofs.Products.{same_row, row_at, subtracted_row}
 use Rattle.sharing.specs.Parts.{scheme, holder, holder_offsets, holder_commitments}
-use Rattle.sharing.specs.Rows.{leaf_in, summed, held, commitment_in}
+use Rattle.sharing.specs.Rows.{leaf_in, summed, held}
 
 -- residues of a set add and subtract as a group
 pub residues_lawful : (set : ℕ) → Lawful (modular (modulus set))
@@ -44,13 +43,13 @@ module _ (F : Digest) (p : Parameters) (salt master : List ℕ) (e : ℕ) (nodes
   leaf_is j q = grown p.h j (omega arith) q
 
   -- each value less all its shares
-  pub offsets_are : (set n : ℕ) (values sums out : List ℕ) → set ≡ p.set → n ≡ parties p → values ≡ value_residues F p salt master →
-      sums ≡ map (summed F p salt e nodes n) (range_with_len 0 p.m) →
+  pub offsets_are : (set : ℕ) (values sums out : List ℕ) → set ≡ p.set → values ≡ value_residues F p salt master →
+      sums ≡ map (summed F p salt e nodes (parties p)) (range_with_len 0 p.m) →
       out ≡ map (λ k. (modular (modulus set)).sub (at values k) (at sums k)) (range_with_len 0 (length sums)) → out ≡ holder_offsets F p salt master e
   unfolding holder_offsets value_residues
-  offsets_are set n values sums out is all are summing left =
-      subtracted_row set p.set p.m values sums out (summed F p salt e nodes n) is summing left
-      ∙ same_row (λ k. g.sub (at values k) (summed F p salt e nodes n k)) (λ k. g.sub (value k) (total g (parties p) (λ j. share F p salt e j (seed j) k))) p.m
+  offsets_are set values sums out is are summing left =
+      subtracted_row set p.set p.m values sums out (summed F p salt e nodes (parties p)) is summing left
+      ∙ same_row (λ k. g.sub (at values k) (summed F p salt e nodes (parties p) k)) (λ k. g.sub (value k) (total g (parties p) (λ j. share F p salt e j (seed j) k))) p.m
       (λ k q i. g.sub (row_at value p.m k values are q i) (summed_all k i))
     where
       g : Entries ℕ
@@ -59,19 +58,19 @@ module _ (F : Digest) (p : Parameters) (salt master : List ℕ) (e : ℕ) (nodes
       value : ℕ → ℕ
       value k = residue (modulus p.set) (sampled (table p.set) (value_word F salt master k))
 
-      summed_all : (k : ℕ) → summed F p salt e nodes n k ≡ total g (parties p) (λ j. share F p salt e j (seed j) k)
+      summed_all : (k : ℕ) → summed F p salt e nodes (parties p) k ≡ total g (parties p) (λ j. share F p salt e j (seed j) k)
       summed_all k =
-          others_all g (parties p) n (λ j. share F p salt e j (leaf_in p nodes j) k) (omega arith)
+          others_all g (parties p) (parties p) (λ j. share F p salt e j (leaf_in p nodes j) k) (omega arith)
           ∙ total_same (residues_lawful p.set) (parties p) (λ j. share F p salt e j (leaf_in p nodes j) k) (λ j. share F p salt e j (seed j) k) (λ j q. ap (λ z. share F p salt e j z k) (leaf_is j q))
 
-  -- no commitment is given, and all are drawn
-  pub commitments_are : (n : ℕ) (offsets : List ℕ) → n ≡ parties p → offsets ≡ holder_offsets F p salt master e →
-      parts (parties p) (commitment_in F p salt e nodes n []) ++ flat_map le16 offsets ≡ holder_commitments F p salt master e
+  -- all commitments are drawn
+  pub commitments_are : (offsets : List ℕ) → offsets ≡ holder_offsets F p salt master e →
+      parts (parties p) (λ j. drawn F (leaf_text 4 salt e j (leaf_in p nodes j)) (width p)) ++ flat_map le16 offsets ≡ holder_commitments F p salt master e
   unfolding holder_commitments holder_offsets
-  commitments_are n offsets all are =
+  commitments_are offsets are =
       λ i.
-      parts_same (parties p) (commitment_in F p salt e nodes n []) (λ j. drawn F (leaf_text 4 salt e j (seed j)) (width p))
-      (λ j q. cond-false (eqb j n) [] (drawn F (leaf_text 4 salt e j (leaf_in p nodes j)) (width p)) (ne_eqb j n (λ z. omega arith)) ∙ ap (λ z. drawn F (leaf_text 4 salt e j z) (width p)) (leaf_is j q)) i
+      parts_same (parties p) (λ j. drawn F (leaf_text 4 salt e j (leaf_in p nodes j)) (width p)) (λ j. drawn F (leaf_text 4 salt e j (seed j)) (width p))
+      (λ j q. ap (λ z. drawn F (leaf_text 4 salt e j z) (width p)) (leaf_is j q)) i
       ++ flat_map le16 (are i)
 
   pub shown_is : (seed_a flags offsets : List ℕ) (j : ℕ) → j < parties p → offsets ≡ holder_offsets F p salt master e →

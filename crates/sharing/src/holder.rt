@@ -1,79 +1,74 @@
 //! A holder of salt and master: its offsets, and its part of the texts 6 and 7.
 ghost use Rattle.std.specs.Prelude.{◌≡◌, ◌*◌, ◌≤◌, length};
 ghost use Rattle.protocol.specs.Ceremony.{root};
-ghost use Rattle.protocol.specs.Flags.{ones};
 ghost use Rattle.protocol.specs.Of.{parameters};
-ghost use Rattle.protocol.specs.Parameters.{sigma, parties};
+ghost use Rattle.protocol.specs.Parameters.{parties};
 ghost use Rattle.digest.specs.Feeding.{Ready};
 ghost use Rattle.digest.specs.Making.{Took};
 ghost use Rattle.digest.specs.Short.{short_bytes};
 ghost use Rattle.seedtree.specs.Grown.{Grown};
-ghost use Rattle.shares.specs.Drawing.{value_residues};
 ghost use Rattle.shares.specs.Shown.{most_shown};
 ghost use Rattle.sharing.specs.Parts.{holder_offsets, holder_commitments, holder_shares, most_committed};
 ghost use Rattle.sharing.specs.Sizes.{scratch_words};
 
+use crate::held::{Asked, Holder};
 use crate::known::Known;
 use crate::memory::{Scratch, cut_scratch};
 use crate::parties::{take_commitments, take_parties};
 use crate::rows::sum_shares;
 use digest::maker::DigestMaker;
-use digest::short::ShortBytes;
-use protocol::set::Set;
+use lattice::set::Set;
 use lattice::sums::subtract_from;
-use protocol::header::Header;
+use seedtree::leaves::Leaves;
+use seedtree::repetition::Repetition;
 use seedtree::tree::grow;
 use shares::taking::take_words;
 
-/// Grows the tree of repetition e and finds the offsets of the values, each value less all its shares; `shares` is worked in.
+/// Grows the tree of a repetition and finds the offsets of the values, each value less all its shares; `shares` is worked in.
 pub fn share_out<D: DigestMaker>(
     maker: &mut D,
-    header: Header,
-    salt: &ShortBytes,
-    master: &[u8; 32],
-    e: u8,
-    values: &[u16],
+    holder: Holder<'_, D>,
+    number: u8,
     shares: &mut [u16],
     offsets: &mut [u16],
     nodes: &mut [u16],
 )
-    requires values { values.now ≡ value_residues D.DigestMaker.function (parameters header) (short_bytes salt.now) master.now }
-    requires shares { length shares.old ≡ (parameters header).m }
-    requires offsets { length offsets.old ≡ (parameters header).m }
-    requires nodes { 32 * parties (parameters header) ≤ length nodes.old }
-    ensures tree { Grown D.DigestMaker.function (short_bytes salt.now) e (root D.DigestMaker.function (short_bytes salt.now) master.now e) (parameters header).h nodes.new }
-    ensures offsets { offsets.new ≡ holder_offsets D.DigestMaker.function (parameters header) (short_bytes salt.now) master.now e }
+    requires shares { length shares.old ≡ (parameters holder.header).m }
+    requires offsets { length offsets.old ≡ (parameters holder.header).m }
+    requires nodes { 32 * parties (parameters holder.header) ≤ length nodes.old }
+    ensures tree { let salt = short_bytes holder.entry.salt.now in Grown D.DigestMaker.function salt number (root D.DigestMaker.function salt holder.entry.master.now number) (parameters holder.entry.header).h nodes.new }
+    ensures offsets { offsets.new ≡ holder_offsets D.DigestMaker.function (parameters holder.entry.header) (short_bytes holder.entry.salt.now) holder.entry.master.now number }
 {
-    grow(maker, header, salt, master, e, nodes);
-    sum_shares(
-        maker,
+    let Holder {
         header,
         salt,
-        e,
-        nodes,
-        header.parties(),
-        shares,
-        offsets,
-    );
-    subtract_from(header.set, values, offsets);
+        master,
+        values,
+        of: _,
+    } = holder;
+    let of = Repetition {
+        header,
+        salt,
+        number,
+    };
+    grow(maker, of, master, nodes);
+    sum_shares(maker, Leaves { of, nodes }, None, shares, offsets);
+    subtract_from(Set::of(header), values, offsets);
 }
 
-/// Feeds repetition e of text 6: all parties' commitments, then the offsets.
+/// Feeds a repetition of text 6: all parties' commitments, then the offsets.
 pub fn feed_text6<D: DigestMaker>(
     short: &mut D,
     long: &mut D,
-    header: Header,
-    salt: &ShortBytes,
-    master: &[u8; 32],
-    e: u8,
-    values: &[u16],
+    holder: Holder<'_, D>,
+    number: u8,
     scratch: &mut [u16],
 )
-    requires values { values.now ≡ value_residues D.DigestMaker.function (parameters header) (short_bytes salt.now) master.now }
-    requires scratch { scratch_words (parameters header) ≤ length scratch.old }
+    requires scratch { scratch_words (parameters holder.header) ≤ length scratch.old }
     requires ready { Ready most_committed (D.DigestMaker.means long.old) }
-    ensures { Took (holder_commitments D.DigestMaker.function (parameters header) (short_bytes salt.now) master.now e) (D.DigestMaker.means long.old) (D.DigestMaker.means long.new) }
+    ensures { let h = holder.entry in Took (holder_commitments D.DigestMaker.function (parameters h.header) (short_bytes h.salt.now) h.master.now number) (D.DigestMaker.means long.old) (D.DigestMaker.means long.new) }
 {
+    let header = holder.header;
     let Scratch {
         shares,
         offsets,
@@ -83,57 +78,55 @@ pub fn feed_text6<D: DigestMaker>(
         bench: _,
         nodes,
     } = cut_scratch(header, scratch);
-    share_out(
-        short, header, salt, master, e, values, shares, offsets, nodes,
-    );
-    take_commitments(short, long, header, salt, e, nodes, header.parties(), &[]);
+    share_out(short, holder, number, shares, offsets, nodes);
+    let of = Repetition {
+        header,
+        salt: holder.salt,
+        number,
+    };
+    take_commitments(short, long, Leaves { of, nodes }, None);
     take_words(long, offsets);
 }
 
-/// Feeds repetition e of text 7: of each party its audited shares, then its product share.
+/// Feeds a repetition of text 7: of each party its audited shares, then its product share.
 pub fn feed_text7<'a, D: DigestMaker>(
     short: &mut D,
     long: &mut D,
-    header: Header,
-    salt: &'a ShortBytes,
-    master: &[u8; 32],
-    e: u8,
-    seed_a: &'a [u8; 16],
-    values: &'a [u16],
-    flags: &'a [u16],
+    asked: Asked<'a, D>,
+    number: u8,
     scratch: &'a mut [u16],
 )
-    requires values { values.now ≡ value_residues D.DigestMaker.function (parameters header) (short_bytes salt.now) master.now }
-    requires flags { length flags.now ≡ (parameters header).m }
-    requires kept { ones flags.now ≡ sigma (parameters header) }
-    requires scratch { scratch_words (parameters header) ≤ length scratch.old }
+    requires scratch { scratch_words (parameters asked.holder.header) ≤ length scratch.old }
     requires ready { Ready (256 * most_shown) (D.DigestMaker.means long.old) }
-    ensures { Took (holder_shares D.DigestMaker.function (parameters header) (short_bytes salt.now) master.now seed_a.now flags.now e) (D.DigestMaker.means long.old) (D.DigestMaker.means long.new) }
+    ensures { let h = asked.entry.holder in Took (holder_shares D.DigestMaker.function (parameters h.header) (short_bytes h.salt.now) h.master.now asked.entry.seed_a.now asked.entry.flags.now number) (D.DigestMaker.means long.old) (D.DigestMaker.means long.new) }
 {
+    let Asked {
+        holder,
+        seed_a,
+        flags,
+    } = asked;
+    let header = holder.header;
     let Scratch {
         shares,
         offsets,
-        sums,
-        key,
+        sums: _,
+        key: _,
         product,
         bench,
         nodes,
     } = cut_scratch(header, scratch);
-    share_out(
-        short, header, salt, master, e, values, shares, offsets, nodes,
-    );
-    let known = Known {
+    share_out(short, holder, number, shares, offsets, nodes);
+    let of = Repetition {
         header,
-        salt,
-        e,
+        salt: holder.salt,
+        number,
+    };
+    let known = Known {
+        leaves: Leaves { of, nodes },
         seed_a,
         flags,
-        nodes,
         offsets,
-        hidden: header.parties(),
-        values,
-        key,
-        sums,
+        hidden: None,
     };
     take_parties(short, long, known, shares, bench, product);
 }

@@ -2,7 +2,10 @@
 //! of a record, who has all parties but the hidden one.
 #![tactic(auto)]
 
+pub mod checked;
 pub mod checker;
+pub mod held;
+pub mod hidden;
 pub mod holder;
 pub mod known;
 pub mod memory;

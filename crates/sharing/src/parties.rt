@@ -1,5 +1,5 @@
 //! What all parties of a repetition give to the texts 6 and 7.
-ghost use Rattle.std.specs.Prelude.{◌≡◌, ◌*◌, ◌<◌, ◌≤◌, [], length};
+ghost use Rattle.std.specs.Prelude.{◌≡◌, ◌*◌, ◌<◌, length};
 ghost use Rattle.protocol.specs.Of.{parameters};
 ghost use Rattle.protocol.specs.Parameters.{parties};
 ghost use Rattle.protocol.specs.Sharing.{parts};
@@ -8,63 +8,52 @@ ghost use Rattle.digest.specs.Making.{Took};
 ghost use Rattle.digest.specs.Short.{short_bytes};
 ghost use Rattle.shares.specs.Shown.{most_shown};
 ghost use Rattle.shares.specs.Sizes.{bench_words};
-ghost use Rattle.sharing.specs.Known.{party_text};
-ghost use Rattle.sharing.specs.Rows.{commitment_in};
+ghost use Rattle.sharing.specs.Known.{commitment_of, party_text};
 
+use crate::hidden::Hidden;
 use crate::known::Known;
 use crate::rows::hold_shares;
 use digest::maker::DigestMaker;
 use digest::short::ShortBytes;
-use protocol::header::Header;
-use seedtree::words::load;
+use seedtree::leaves::Leaves;
+use shares::kept::Kept;
 use shares::party::{commit, take_found, take_shown};
 
-/// Takes party j's commitment, the hidden one's as it is given.
-fn take_commitment<D: DigestMaker>(
-    short: &mut D,
-    long: &mut D,
-    header: Header,
-    salt: &ShortBytes,
-    e: u8,
-    nodes: &[u16],
-    hidden: usize,
-    given: &[u8],
+// The maker of short texts and that of the long one stay two parameters: lent in one struct, each function would have to say of both that
+// it is the same maker still.
+
+/// Party j's commitment, the hidden one's as it is given.
+fn commitment<D: DigestMaker>(
+    maker: &mut D,
+    leaves: Leaves<'_>,
+    hidden: Option<Hidden<ShortBytes>>,
     j: usize,
-)
-    requires party { j < parties (parameters header) }
-    requires tree { 32 * parties (parameters header) ≤ length nodes.now }
-    requires given { length given.now ≤ 64 }
-    requires ready { Ready 64 (D.DigestMaker.means long.old) }
-    ensures { Took (commitment_in D.DigestMaker.function (parameters header) (short_bytes salt.now) e nodes.now hidden given.now j) (D.DigestMaker.means long.old) (D.DigestMaker.means long.new) }
+) -> ShortBytes
+    requires { j < parties (parameters leaves.of.header) }
+    ensures { short_bytes result ≡ commitment_of D.DigestMaker.function leaves.entry hidden j }
 {
-    if j == hidden {
-        long.take(given).unwrap();
-    } else {
-        let mut seed = [0; 32];
-        load(nodes, header.parties() + j, &mut seed);
-        let commitment = commit(short, header, salt, e, j as u8, &seed);
-        long.take(commitment.as_slice()).unwrap();
+    match hidden {
+        Some(hidden) if hidden.party == j => hidden.has,
+        _ => {
+            let seed = leaves.seed(j);
+            commit(maker, leaves.of, j as u8, &seed)
+        }
     }
 }
 
-/// Takes all parties' commitments, the hidden one's as it is given; none is given where `hidden` is not the number of a party.
+/// Takes all parties' commitments, the hidden one's as it is given, if one is hidden.
 pub fn take_commitments<D: DigestMaker>(
     short: &mut D,
     long: &mut D,
-    header: Header,
-    salt: &ShortBytes,
-    e: u8,
-    nodes: &[u16],
-    hidden: usize,
-    given: &[u8],
+    leaves: Leaves<'_>,
+    hidden: Option<Hidden<ShortBytes>>,
 )
-    requires tree { 32 * parties (parameters header) ≤ length nodes.now }
-    requires given { length given.now ≤ 64 }
-    requires ready { Ready (64 * parties (parameters header)) (D.DigestMaker.means long.old) }
-    ensures { Took (parts (parties (parameters header)) (commitment_in D.DigestMaker.function (parameters header) (short_bytes salt.now) e nodes.now hidden given.now)) (D.DigestMaker.means long.old) (D.DigestMaker.means long.new) }
+    requires { Ready (64 * parties (parameters leaves.of.header)) (D.DigestMaker.means long.old) }
+    ensures { Took (parts (parties (parameters leaves.entry.of.header)) (commitment_of D.DigestMaker.function leaves.entry hidden)) (D.DigestMaker.means long.old) (D.DigestMaker.means long.new) }
 {
-    for j in 0..header.parties() {
-        take_commitment(short, long, header, salt, e, nodes, hidden, given, j);
+    for j in 0..leaves.of.header.parties() {
+        let commitment = commitment(short, leaves, hidden, j);
+        long.take(commitment.as_slice()).unwrap();
     }
 }
 
@@ -78,33 +67,32 @@ fn take_party<D: DigestMaker>(
     bench: &mut [u16],
     product: &mut [u16],
 )
-    requires party { j < parties (parameters known.header) }
-    requires shares { length shares.old ≡ (parameters known.header).m }
-    requires bench { length bench.old ≡ bench_words (parameters known.header) }
-    requires room { length product.old ≡ (parameters known.header).n * (parameters known.header).c }
+    requires party { j < parties (parameters known.leaves.of.header) }
+    requires shares { length shares.old ≡ (parameters known.leaves.of.header).m }
+    requires bench { length bench.old ≡ bench_words (parameters known.leaves.of.header) }
+    requires room { length product.old ≡ (parameters known.leaves.of.header).n * (parameters known.leaves.of.header).c }
     requires ready { Ready most_shown (D.DigestMaker.means long.old) }
     ensures { Took (party_text D.DigestMaker.function known.entry j) (D.DigestMaker.means long.old) (D.DigestMaker.means long.new) }
 {
     let Known {
-        header,
-        salt,
-        e,
+        leaves,
         seed_a,
         flags,
-        nodes,
         offsets,
         hidden,
-        values,
-        key,
-        sums,
     } = known;
-    if j == hidden {
-        take_found(
-            long, header, seed_a, flags, values, key, sums, shares, bench, product,
-        );
-    } else {
-        hold_shares(short, header, salt, e, nodes, offsets, j, shares);
-        take_shown(long, header, seed_a, flags, shares, bench, product);
+    let kept = Kept {
+        header: leaves.of.header,
+        flags,
+    };
+    match hidden {
+        Some(hidden) if hidden.party == j => {
+            take_found(long, kept, seed_a, hidden.has, shares, bench, product);
+        }
+        _ => {
+            hold_shares(short, leaves, offsets, j, shares);
+            take_shown(long, kept, seed_a, shares, bench, product);
+        }
     }
 }
 
@@ -117,13 +105,13 @@ pub fn take_parties<D: DigestMaker>(
     bench: &mut [u16],
     product: &mut [u16],
 )
-    requires shares { length shares.old ≡ (parameters known.header).m }
-    requires bench { length bench.old ≡ bench_words (parameters known.header) }
-    requires room { length product.old ≡ (parameters known.header).n * (parameters known.header).c }
+    requires shares { length shares.old ≡ (parameters known.leaves.of.header).m }
+    requires bench { length bench.old ≡ bench_words (parameters known.leaves.of.header) }
+    requires room { length product.old ≡ (parameters known.leaves.of.header).n * (parameters known.leaves.of.header).c }
     requires ready { Ready (256 * most_shown) (D.DigestMaker.means long.old) }
-    ensures { Took (parts (parties (parameters known.entry.header)) (party_text D.DigestMaker.function known.entry)) (D.DigestMaker.means long.old) (D.DigestMaker.means long.new) }
+    ensures { Took (parts (parties (parameters known.entry.leaves.of.header)) (party_text D.DigestMaker.function known.entry)) (D.DigestMaker.means long.old) (D.DigestMaker.means long.new) }
 {
-    for j in 0..known.header.parties() {
+    for j in 0..known.leaves.of.header.parties() {
         take_party(short, long, known, j, shares, bench, product);
     }
 }

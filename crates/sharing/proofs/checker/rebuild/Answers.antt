@@ -1,8 +1,8 @@
-use Rattle.std.proofs.Common.{◌*◌, ◌<◌, map, length, sym, refl, ap, ◌∙◌, subst, arith}
+use Rattle.std.proofs.Common.{◌≡◌, ℕ, ◌*◌, ◌<◌, List, map, length, sym, refl, ap, ◌∙◌, subst, arith}
 use Rattle.std.specs.List.{range_with_len}
 use Rattle.protocol.specs.Of.{parameters}
 use Rattle.protocol.specs.Parameters.{parties}
-use Rattle.protocol.specs.Streams.{stream_word}
+use Rattle.protocol.specs.Streams.{Digest, stream_word}
 use Rattle.digest.specs.Short.{short_bytes}
 use Rattle.lattice.specs.Lines.{at}
 use Rattle.seedtree.specs.Grown.{Regrown}
@@ -17,43 +17,52 @@ use Rattle.sharing.proofs.checker.rebuild.Goals as goal
 
 pub read_words-requires-2 : goal.read_words-requires-2
 read_words-requires-2 g c =
-    ap length c.part.ensures.holds ∙ key_long (parameters c.args.view.header) c.args.view.bytes.now c.requires.record_long ∙ ap (λ n. 2 * n) (sym c.requires.key)
+    ap length c.part.ensures.holds ∙ key_long (parameters c.args.checked.view.header) c.args.checked.view.bytes.now c.args.checked.long ∙ ap (λ n. 2 * n) (sym c.requires.key)
+
+regrown_from : (F : Digest) (salt : List ℕ) (e h : ℕ) (nodes seeds seeds' : List ℕ) (party party' : ℕ) → seeds ≡ seeds' → party ≡ party' →
+    Regrown F salt e h party seeds nodes → Regrown F salt e h party' seeds' nodes
+regrown_from F salt e h nodes seeds seeds' party party' s is grown =
+    subst (λ n. Regrown F salt e h n seeds' nodes) is (subst (λ z. Regrown F salt e h party z nodes) s grown)
 
 pub returns-then-party-ne0 : goal.returns-then-party-ne0
 returns-then-party-ne0 g c =
     let F = g.D.DigestMaker.function in
-    let p = parameters c.args.view.header in
-    let salt = short_bytes c.args.salt.now in
-    let e = c.args.e in
-    let party = c.args.party in
+    let x = c.args.checked in
+    let p = parameters x.view.header in
+    let salt = short_bytes x.salt.now in
+    let e = x.number in
+    let party = c.party-party.result in
     let nodes = c.regrow.new.nodes in
     let offsets = c.read_words.new.out in
     let some : 0 < parties p = omega arith in
     record {
-      tree = subst (λ s. Regrown F salt e p.h party s nodes) c.block_of-block.ensures.seeds c.regrow.ensures;
-      offsets = c.read_words.ensures ∙ (λ i. map (stream_word (at (c.block_of-block.ensures.offsets i))) (range_with_len 0 (c.requires.offsets i)));
+      tree = regrown_from F salt e p.h nodes _ _ party _ c.block-block.ensures.seeds c.party-party.ensures c.regrow.ensures;
+      offsets = c.read_words.ensures ∙ (λ i. map (stream_word (at (c.block-block.ensures.offsets i))) (range_with_len 0 (c.requires.offsets i)));
       key = c.read_words-2.ensures ∙ (λ i. map (stream_word (at (c.part.ensures.holds i))) (range_with_len 0 (c.requires.key i)));
       sums =
           added_row _ p.set p.m c.sum_shares.new.sum offsets _ (summed F p salt e nodes party) (at offsets) (others_held F p salt e nodes offsets party)
           c.of.ensures c.sum_shares.ensures c.add_row.ensures (λ k q. refl)
-          (λ k q. sym (others_with (residues_lawful p.set) (λ j. share F p salt e j (leaf_in p nodes j) k) (at offsets k) (parties p) party some c.if-party-ne0.true));
+          (λ k q. sym (others_with (residues_lawful p.set) (λ j. share F p salt e j (leaf_in p nodes j) k) (at offsets k) (parties p) party some c.if-party-ne0.true))
+          ∙ (λ i. map (others_held F p salt e nodes offsets (c.party-party.ensures i)) (range_with_len 0 p.m));
     }
 
 pub returns-else-party-ne0 : goal.returns-else-party-ne0
 returns-else-party-ne0 g c =
     let F = g.D.DigestMaker.function in
-    let p = parameters c.args.view.header in
-    let salt = short_bytes c.args.salt.now in
-    let e = c.args.e in
-    let party = c.args.party in
+    let x = c.args.checked in
+    let p = parameters x.view.header in
+    let salt = short_bytes x.salt.now in
+    let e = x.number in
+    let party = c.party-party.result in
     let nodes = c.regrow.new.nodes in
     let offsets = c.read_words.new.out in
     record {
-      tree = subst (λ s. Regrown F salt e p.h party s nodes) c.block_of-block.ensures.seeds c.regrow.ensures;
-      offsets = c.read_words.ensures ∙ (λ i. map (stream_word (at (c.block_of-block.ensures.offsets i))) (range_with_len 0 (c.requires.offsets i)));
+      tree = regrown_from F salt e p.h nodes _ _ party _ c.block-block.ensures.seeds c.party-party.ensures c.regrow.ensures;
+      offsets = c.read_words.ensures ∙ (λ i. map (stream_word (at (c.block-block.ensures.offsets i))) (range_with_len 0 (c.requires.offsets i)));
       key = c.read_words-2.ensures ∙ (λ i. map (stream_word (at (c.part.ensures.holds i))) (range_with_len 0 (c.requires.key i)));
       sums =
           c.sum_shares.ensures
           ∙ same_row (summed F p salt e nodes party) (others_held F p salt e nodes offsets party) p.m
-          (λ k q. sym (others_without (residues_lawful p.set) (λ j. share F p salt e j (leaf_in p nodes j) k) (at offsets k) (parties p) party c.if-party-ne0.false));
+          (λ k q. sym (others_without (residues_lawful p.set) (λ j. share F p salt e j (leaf_in p nodes j) k) (at offsets k) (parties p) party c.if-party-ne0.false))
+          ∙ (λ i. map (others_held F p salt e nodes offsets (c.party-party.ensures i)) (range_with_len 0 p.m));
     }

@@ -1,36 +1,40 @@
-use Rattle.std.proofs.Common.{◌≡◌, ℕ, ◌*◌, List, subst, rules}
+use Rattle.std.proofs.Common.{◌≡◌, ◌*◌, ◌≤◌, length, ap, ◌∙◌, subst, arith}
 use Rattle.protocol.specs.Of.{parameters}
 use Rattle.protocol.specs.Parameters.{parties}
 use Rattle.protocol.specs.Sharing.{parts}
 use Rattle.digest.specs.Making.{Took}
-use Rattle.digest.specs.Short.{short_bytes}
-use Rattle.digest.proofs.Taking.{took_none, took_next, ready_after}
-use Rattle.sharing.specs.Rows.{commitment_in}
-use Rattle.sharing.proofs.Lengths.{commitments_most}
+use Rattle.digest.proofs.Taking.{took_none, took_next, took_ok, ready_after}
+use Rattle.sharing.specs.Known.{commitment_of}
+use Rattle.sharing.proofs.Lengths.{commitments_most, length-short}
 use Rattle.sharing.proofs.parties.take_commitments.Goals as goal
 
 pub loop-j-init : goal.loop-j-init
 loop-j-init g c = took_none _
 
-pub take_commitment-requires : goal.take_commitment-requires
-take_commitment-requires g c =
-    let p = parameters c.args.header in
-    let most = commitments_most g.D.DigestMaker.function p (short_bytes c.args.salt.now) c.args.e c.args.nodes.now c.args.hidden c.args.given.now c.requires.given c.loop-j.j in
-    record {
-      party = search rules;
-      tree = c.requires.tree;
-      given = c.requires.given;
-      ready = ready_after _ _ _ (64 * parties p) 64 c.requires.ready (search rules) c.loop-j.invariant;
-    }
+pub unwrap-requires : goal.unwrap-requires
+unwrap-requires g c =
+    let n = parties (parameters c.args.leaves.of.header) in
+    let bytes = c.as_slice.result.now in
+    let most = commitments_most g.D.DigestMaker.function c.args.leaves c.args.hidden c.loop-j.j in
+    let few : length bytes ≤ 64 = omega (arith, ap length c.as_slice.ensures.bytes, length-short c.commitment-commitment.result) in
+    let ready = ready_after _ _ _ (64 * n) (length bytes) c.requires (omega (arith, most, few)) c.loop-j.invariant in
+    (took_ok c.take.result (g.D.DigestMaker.means c.loop-j.long) (g.D.DigestMaker.means c.take.new.self) bytes ready c.take.ensures.answer c.take.ensures.effect).0
 
 pub loop-j-preserved : goal.loop-j-preserved
 loop-j-preserved g c =
-    took_next c.loop-j.j (commitment_in g.D.DigestMaker.function (parameters c.args.header) (short_bytes c.args.salt.now) c.args.e c.args.nodes.now c.args.hidden c.args.given.now)
-    c.loop-j.invariant c.take_commitment.ensures
+    let n = parties (parameters c.args.leaves.of.header) in
+    let bytes = c.as_slice.result.now in
+    let m' = g.D.DigestMaker.means c.loop-j.long in
+    let m'' = g.D.DigestMaker.means c.take.new.self in
+    let most = commitments_most g.D.DigestMaker.function c.args.leaves c.args.hidden c.loop-j.j in
+    let few : length bytes ≤ 64 = omega (arith, ap length c.as_slice.ensures.bytes, length-short c.commitment-commitment.result) in
+    let ready = ready_after _ _ _ (64 * n) (length bytes) c.requires (omega (arith, most, few)) c.loop-j.invariant in
+    took_next c.loop-j.j (commitment_of g.D.DigestMaker.function c.args.leaves c.args.hidden) c.loop-j.invariant
+    (subst (λ t. Took t m' m'') (c.as_slice.ensures.bytes ∙ c.commitment-commitment.ensures)
+    (took_ok c.take.result m' m'' bytes ready c.take.ensures.answer c.take.ensures.effect).1)
 
 pub returns : goal.returns
 returns g c =
-    let p = parameters c.args.header in
-    let f : ℕ → List ℕ = commitment_in g.D.DigestMaker.function p (short_bytes c.args.salt.now) c.args.e c.args.nodes.now c.args.hidden c.args.given.now in
-    let all : c.loop-j.j ≡ parties p = search rules in
+    let f = commitment_of g.D.DigestMaker.function c.args.leaves c.args.hidden in
+    let all : c.loop-j.j ≡ parties (parameters c.args.leaves.of.header) = omega arith in
     subst (λ n. Took (parts n f) (g.D.DigestMaker.means c.args.long.now) (g.D.DigestMaker.means c.loop-j.long)) all c.loop-j.invariant

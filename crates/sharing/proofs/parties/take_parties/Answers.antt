@@ -16,7 +16,7 @@ pub take_party-requires : goal.take_party-requires
 take_party-requires g c =
     let k = c.args.known in
     let most = shares_most g.D.DigestMaker.function k c.loop-j.j in
-    let few : parties (parameters k.header) ≤ 256 = few_parties (parameters k.header) (omega arith) in
+    let few : parties (parameters k.leaves.of.header) ≤ 256 = few_parties (parameters k.leaves.of.header) (omega arith) in
     record {
       party = search rules;
       shares = search rules;
@@ -30,5 +30,5 @@ loop-j-preserved g c = took_next c.loop-j.j (party_text g.D.DigestMaker.function
 
 pub returns : goal.returns
 returns g c =
-    let all : c.loop-j.j ≡ parties (parameters c.args.known.header) = search rules in
+    let all : c.loop-j.j ≡ parties (parameters c.args.known.leaves.of.header) = search rules in
     subst (λ n. Took (parts n (party_text g.D.DigestMaker.function c.args.known)) (g.D.DigestMaker.means c.args.long.now) (g.D.DigestMaker.means c.loop-j.long)) all c.loop-j.invariant

@@ -1,8 +1,8 @@
-use Rattle.std.proofs.Common.{◌≡◌, map}
+use Rattle.std.proofs.Common.{◌≡◌, map, unwrap_or}
 use Rattle.std.specs.List.{range_with_len}
 use Rattle.protocol.specs.Group.{others}
 use Rattle.protocol.specs.Of.{parameters}
-use Rattle.protocol.specs.Parameters.{modulus}
+use Rattle.protocol.specs.Parameters.{modulus, parties}
 use Rattle.protocol.specs.Residues.{modular}
 use Rattle.digest.specs.Short.{short_bytes}
 use Rattle.shares.specs.Drawing.{share}
@@ -11,5 +11,6 @@ use Rattle.sharing.proofs.rows.sum_shares.Given as goal
 
 abbrev pub invariant-loop-j : goal.invariant-loop-j
 invariant-loop-j g l =
-    let p = parameters l.header in
-    l.sum ≡ map (λ k. others (modular (modulus p.set)) l.j l.left_out (λ j. share g.D.DigestMaker.function p (short_bytes l.salt) l.e j (leaf_in p l.nodes j) k)) (range_with_len 0 p.m)
+    let r = l.leaves.of in
+    let p = parameters r.header in
+    l.sum ≡ map (λ k. others (modular (modulus p.set)) l.j (unwrap_or l.left_out (parties p)) (λ j. share g.D.DigestMaker.function p (short_bytes r.salt.now) r.number j (leaf_in p l.leaves.nodes.now j) k)) (range_with_len 0 p.m)
