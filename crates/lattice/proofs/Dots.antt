@@ -2,10 +2,7 @@
 use Rattle.std.proofs.Common.{◌≡◌, ℕ, zero, suc, ◌+◌, ◌-◌, ◌*◌, ◌/◌, ◌%◌, ◌<◌, ◌≤◌, List, length, take, drop, set, sym, refl, ap, ◌∙◌, subst, inl, inr, le_refl, add-mul, one-mul, add-one, arith, below_more}
 use native.Mathlib.Nat.{mul-zero, mod-lt, mod-mod, mod-add-mod, add-mod-mod}
 use lib.Bits.{bit_and}
-use Rattle.std.specs.List.{fold, zip}
-use Rattle.std.proofs.lemmas.List.{take_all, get_or-take, get_or-drop, get_or-set_same, get_or-set_other}
-use Rattle.std.proofs.lemmas.List.Sums.{fold_more}
-use Rattle.std.proofs.lemmas.Slice.Zip.{length-zip, get_or-zip}
+use Rattle.std.proofs.lemmas.List.{get_or-take, get_or-drop, get_or-set_same, get_or-set_other}
 use Rattle.std.proofs.lemmas.Bool.{cases_lt}
 use Rattle.std.proofs.lemmas.Nat.{mul-le, mul-add-lt, div_below, div-mul-add, mod-mul-add}
 use Rattle.protocol.specs.Parameters.{modulus}
@@ -26,23 +23,6 @@ dot_more q n a s r e =
     ap (λ z. (z + (a n * s n) % q) % q) e
     ∙ same_sum q (dot n a s % q) ((a n * s n) % q) (dot n a s) (a n * s n) (mod-mod (dot n a s) q) (mod-mod (a n * s n) q)
     ∙ ap (λ m. dot m a s % q) (sym (add-one n))
-
--- the products of two lists, summed from the front with both sums wrapped
-abbrev pub with_product : ℕ → ℕ × ℕ → ℕ
-with_product r p = (r + (p.0 * p.1) % 65536) % 65536
-
-pub dot_folded : (xs ys : List ℕ) → length ys ≡ length xs → fold with_product 0 (zip xs ys) ≡ dot (length xs) (at xs) (at ys) % 65536
-dot_folded xs ys e =
-    ap (fold with_product 0) (sym (take_all (length xs) (zip xs ys) (omega (arith, length-zip xs ys)))) ∙ front (length xs) (le_refl (length xs))
-  where
-    front : (n : ℕ) → n ≤ length xs → fold with_product 0 (take n (zip xs ys)) ≡ dot n (at xs) (at ys) % 65536
-    front zero h = refl
-    front (suc n) h =
-        ap (λ m. fold with_product 0 (take m (zip xs ys))) (sym (add-one n))
-        ∙ fold_more with_product 0 (zip xs ys) n (0, 0) (omega (arith, length-zip xs ys))
-        ∙ ap (with_product (fold with_product 0 (take n (zip xs ys)))) (get_or-zip xs ys n (0, 0) (omega arith) (omega arith))
-        ∙ dot_more 65536 n (at xs) (at ys) _ (front n (omega arith))
-        ∙ ap (λ m. dot m (at xs) (at ys) % 65536) (add-one n)
 
 pub dot_same : (n : ℕ) (a b s u : ℕ → ℕ) → ((t : ℕ) → t < n → a t ≡ b t) → ((t : ℕ) → t < n → s t ≡ u t) → dot n a s ≡ dot n b u
 dot_same zero a b s u d e = refl

@@ -12,9 +12,11 @@ fn inner(a: &[u16], b: &[u16]) -> u16
     requires { length b.now ≡ length a.now }
     ensures { result ≡ dot (length a.now) (at a.now) (at b.now) % 65536 }
 {
-    a.iter()
-        .zip(b)
-        .fold(0u16, |sum, (x, y)| sum.wrapping_add(x.wrapping_mul(*y)))
+    let mut sum = 0u16;
+    for (x, y) in a.iter().zip(b) {
+        sum = sum.wrapping_add(x.wrapping_mul(*y));
+    }
+    sum
 }
 
 /// S by columns.
