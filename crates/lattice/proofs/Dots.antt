@@ -1,5 +1,5 @@
 -- Inner products modulo q, and lines of A·S + E.
-use Rattle.std.proofs.Common.{◌≡◌, ℕ, zero, suc, ◌+◌, ◌-◌, ◌*◌, ◌/◌, ◌%◌, ◌<◌, ◌≤◌, List, length, take, drop, set, sym, refl, ap, ◌∙◌, subst, inl, inr, le_refl, add-mul, one-mul, add-one, arith, below_more}
+use Rattle.std.proofs.Common.{◌≡◌, ℕ, zero, suc, ◌+◌, ◌-◌, ◌*◌, ◌/◌, ◌%◌, ◌<◌, ◌≤◌, List, length, take, drop, set, sym, refl, ap, ◌∙◌, subst, inl, inr, le_refl, add-mul, one-mul, arith, below_more}
 use native.Mathlib.Nat.{mul-zero, mod-lt, mod-mod, mod-add-mod, add-mod-mod}
 use lib.Bits.{bit_and}
 use Rattle.std.proofs.lemmas.List.{get_or-take, get_or-drop, get_or-set_same, get_or-set_other}
@@ -17,16 +17,30 @@ pub same_sum : (q a b c d : ℕ) → a % q ≡ c % q → b % q ≡ d % q → (a 
 same_sum q a b c d e h =
     sym (mod-add-mod a q b) ∙ ap (λ z. (z + b) % q) e ∙ mod-add-mod c q b ∙ sym (add-mod-mod c b q) ∙ ap (λ z. (c + z) % q) h ∙ add-mod-mod c d q
 
--- one more term, with both sums wrapped
-pub dot_more : (q n : ℕ) (a s : ℕ → ℕ) (r : ℕ) → r ≡ dot n a s % q → (r + (a n * s n) % q) % q ≡ dot (n + 1) a s % q
-dot_more q n a s r e =
-    ap (λ z. (z + (a n * s n) % q) % q) e
-    ∙ same_sum q (dot n a s % q) ((a n * s n) % q) (dot n a s) (a n * s n) (mod-mod (dot n a s) q) (mod-mod (a n * s n) q)
-    ∙ ap (λ m. dot m a s % q) (sym (add-one n))
-
 pub dot_same : (n : ℕ) (a b s u : ℕ → ℕ) → ((t : ℕ) → t < n → a t ≡ b t) → ((t : ℕ) → t < n → s t ≡ u t) → dot n a s ≡ dot n b u
 dot_same zero a b s u d e = refl
 dot_same (suc n) a b s u d e = λ i. dot_same n a b s u (λ t q. d t (omega arith)) (λ t q. e t (omega arith)) i + d n (omega arith) i * e n (omega arith) i
+
+-- m terms and the n that follow
+dot_split : (m n : ℕ) (a s : ℕ → ℕ) → dot (m + n) a s ≡ dot m a s + dot n (λ t. a (m + t)) (λ t. s (m + t))
+dot_split m zero a s =
+    ap (λ k. dot k a s) (let e : m + 0 ≡ m = omega arith in e) ∙ (let e : dot m a s ≡ dot m a s + 0 = omega arith in e)
+dot_split m (suc n) a s =
+    ap (λ k. dot k a s) (let e : m + suc n ≡ suc (m + n) = omega arith in e)
+    ∙ ap (λ z. z + a (m + n) * s (m + n)) (dot_split m n a s)
+    ∙ sym_assoc (dot m a s) (dot n (λ t. a (m + t)) (λ t. s (m + t))) (a (m + n) * s (m + n))
+  where
+    sym_assoc : (x y z : ℕ) → x + y + z ≡ x + (y + z)
+    sym_assoc x y z = omega arith
+
+-- the same, with both sums wrapped
+pub dot_joined : (m n : ℕ) (a s b u : ℕ → ℕ) (x y : ℕ) → x ≡ dot m a s % 65536 → y ≡ dot n b u % 65536 →
+    ((t : ℕ) → t < n → b t ≡ a (m + t)) → ((t : ℕ) → t < n → u t ≡ s (m + t)) → (x + y) % 65536 ≡ dot (m + n) a s % 65536
+dot_joined m n a s b u x y e f d g =
+    same_sum 65536 x y (dot m a s) (dot n (λ t. a (m + t)) (λ t. s (m + t)))
+    (ap (λ z. z % 65536) e ∙ mod-mod (dot m a s) 65536)
+    (ap (λ z. z % 65536) f ∙ mod-mod (dot n b u) 65536 ∙ ap (λ z. z % 65536) (dot_same n b (λ t. a (m + t)) u (λ t. s (m + t)) d g))
+    ∙ ap (λ z. z % 65536) (sym (dot_split m n a s))
 
 -- the mask of a set's modulus, after a sum that wrapped at 2^16
 pub masked_sum : (s : Set) (x : ℕ) → bit_and (x % 65536) (modulus (number s) - 1) ≡ x % modulus (number s)
