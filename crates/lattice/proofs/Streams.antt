@@ -13,9 +13,9 @@ pub word_of_pair : (bs : List ℕ) (pairs : List (List ℕ)) (k t : ℕ) → pai
     at (get_or pairs t []) 0 + at (get_or pairs t []) 1 * 256 ≡ stream_word (at bs) t
 word_of_pair bs pairs k t e h =
     let low : at (get_or pairs t []) 0 ≡ at bs (2 * t) =
-      ap (λ ps. at (get_or ps t []) 0) e ∙ chunk_at 2 bs k t 0 h (omega arith) ∙ ap (at bs) (omega arith) in
+    ap (λ ps. at (get_or ps t []) 0) e ∙ chunk_at 2 bs k t 0 h (omega arith) ∙ ap (at bs) (omega arith) in
     let high : at (get_or pairs t []) 1 ≡ at bs (2 * t + 1) =
-      ap (λ ps. at (get_or ps t []) 1) e ∙ chunk_at 2 bs k t 1 h (omega arith) ∙ ap (at bs) (omega arith) in
+    ap (λ ps. at (get_or ps t []) 1) e ∙ chunk_at 2 bs k t 1 h (omega arith) ∙ ap (at bs) (omega arith) in
     omega (arith, low, high)
 
 front_at : (s : ℕ → ℕ) (n k : ℕ) → k < n → at (first_bytes s n) k ≡ s k

@@ -19,7 +19,7 @@ fn inner(a: &[u16], b: &[u16]) -> u16
     sum
 }
 
-/// The same in pieces: a loop of 128 turns has no remainder to test, which makes it a fifth faster.
+/// The same in pieces: a loop of 128 turns has no remainder to test, which makes the product a fifth faster.
 fn inner_in_pieces(a: &[u16], b: &[u16]) -> u16
     requires { length b.now ≡ length a.now }
     ensures { result ≡ dot (length a.now) (at a.now) (at b.now) % 65536 }
@@ -51,6 +51,7 @@ fn multiply_line(set: Set, row: &[u16], columns: &[u16], errors: &[u16], line: &
     ensures { (l : ℕ) → l < length line.old → at line.new l ≡ row_entry (modulus (number set)) (length row.now) row.now columns.now (at errors.now l) l }
 {
     let n = row.len();
+    // No `chunks_exact` over the columns: n may be 0.
     for (l, entry) in line.iter_mut().enumerate() {
         let column = &columns[l * n..l * n + n];
         *entry = inner_in_pieces(row, column).wrapping_add(errors[l]) & set.mask();

@@ -57,6 +57,7 @@ impl Rows<'_> {
         ensures { sum.new ≡ map (λ k. without (modular (modulus (number self.now.set))) self.now.parties left_out (λ j. at self.now.rows.now (j * self.now.width + k))) (range_with_len 0 self.now.width) }
     {
         sum.fill(0);
+        // No `chunks_exact` over the rows: their width may be 0.
         for j in 0..self.parties {
             let counts = left_out != Some(j);
             if counts {

@@ -13,7 +13,7 @@ loop-x-preserved c =
     let b = c.args.b.now in
     let k = length c.loop-x.yielded in
     let t = zip_turn c.as_chunks.result.0.now c.as_chunks-2.result.0.now c.loop-x.yielded c.into_iter-x-iterator.result c.loop-x.x-iterator c.next.new.self c.next.result (cc) (cc) c.loop-x.yielded_by
-        (c.in-Some.x, c.in-Some.y) c.in-Some.is c.next.ensures.steps in
+    (c.in-Some.x, c.in-Some.y) c.in-Some.is c.next.ensures.steps in
     let long : length c.in-Some.x.now ≡ 128 = search rules in
     dot_joined (k * 128) 128 (at a) (at b) (at c.in-Some.x.now) (at c.in-Some.y.now) c.loop-x.sum c.inner-sum.result c.loop-x.invariant
     (c.inner-sum.ensures ∙ ap (λ n. dot n (at c.in-Some.x.now) (at c.in-Some.y.now) % 65536) long)
@@ -27,7 +27,7 @@ returns c =
     let b = c.args.b.now in
     let k = length c.loop-x.yielded in
     let end = zip_end c.as_chunks.result.0.now c.as_chunks-2.result.0.now c.loop-x.yielded c.into_iter-x-iterator.result c.loop-x.x-iterator c.next.new.self c.next.result (cc) (cc) c.loop-x.yielded_by
-        c.in-None.is c.next.ensures.steps in
+    c.in-None.is c.next.ensures.steps in
     let all : k ≡ length a / 128 = omega (arith, end, c.as_chunks.ensures.front_len, c.as_chunks-2.ensures.front_len, c.requires) in
     dot_joined (k * 128) (length c.as_chunks.result.1.now) (at a) (at b) (at c.as_chunks.result.1.now) (at c.as_chunks-2.result.1.now) c.loop-x.sum c.inner.result c.loop-x.invariant
     c.inner.ensures
