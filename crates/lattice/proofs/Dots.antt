@@ -1,13 +1,10 @@
 -- Inner products modulo q, and lines of A·S + E.
-use Rattle.std.proofs.Common.{◌≡◌, ℕ, zero, suc, ◌+◌, ◌-◌, ◌*◌, ◌/◌, ◌%◌, ◌<◌, ◌≤◌, List, length, take, drop, set, sym, refl, ap, ◌∙◌, subst, inl, inr, le_refl, add-mul, one-mul, add-one, arith, below_more}
+use Rattle.std.proofs.Common.{◌≡◌, ℕ, zero, suc, ◌+◌, ◌-◌, ◌*◌, ◌/◌, ◌%◌, ◌<◌, List, take, drop, sym, refl, ap, ◌∙◌, subst, inl, inr, add-mul, one-mul, arith}
 use native.Mathlib.Nat.{mul-zero, mod-lt, mod-mod, mod-add-mod, add-mod-mod}
 use lib.Bits.{bit_and}
-use Rattle.std.specs.List.{fold, zip}
-use Rattle.std.proofs.lemmas.List.{take_all, get_or-take, get_or-drop, get_or-set_same, get_or-set_other}
-use Rattle.std.proofs.lemmas.List.Sums.{fold_more}
-use Rattle.std.proofs.lemmas.Slice.Zip.{length-zip, get_or-zip}
+use Rattle.std.proofs.lemmas.List.{get_or-take, get_or-drop}
 use Rattle.std.proofs.lemmas.Bool.{cases_lt}
-use Rattle.std.proofs.lemmas.Nat.{mul-le, mul-add-lt, div_below, div-mul-add, mod-mul-add}
+use Rattle.std.proofs.lemmas.Nat.{mul-add-lt, div_below, div-mul-add, mod-mul-add}
 use Rattle.protocol.specs.Parameters.{modulus}
 use Rattle.protocol.specs.Residues.{dot, product}
 use Rattle.protocol.specs.declared.set.Set.{Set}
@@ -16,37 +13,34 @@ use Rattle.lattice.specs.Lines.{at, row_entry}
 use Rattle.protocol.specs.Sets.{number}
 use Rattle.lattice.proofs.Sizes.{masked}
 
-pub same_sum : (q a b c d : ℕ) → a % q ≡ c % q → b % q ≡ d % q → (a + b) % q ≡ (c + d) % q
+same_sum : (q a b c d : ℕ) → a % q ≡ c % q → b % q ≡ d % q → (a + b) % q ≡ (c + d) % q
 same_sum q a b c d e h =
     sym (mod-add-mod a q b) ∙ ap (λ z. (z + b) % q) e ∙ mod-add-mod c q b ∙ sym (add-mod-mod c b q) ∙ ap (λ z. (c + z) % q) h ∙ add-mod-mod c d q
 
--- one more term, with both sums wrapped
-pub dot_more : (q n : ℕ) (a s : ℕ → ℕ) (r : ℕ) → r ≡ dot n a s % q → (r + (a n * s n) % q) % q ≡ dot (n + 1) a s % q
-dot_more q n a s r e =
-    ap (λ z. (z + (a n * s n) % q) % q) e
-    ∙ same_sum q (dot n a s % q) ((a n * s n) % q) (dot n a s) (a n * s n) (mod-mod (dot n a s) q) (mod-mod (a n * s n) q)
-    ∙ ap (λ m. dot m a s % q) (sym (add-one n))
-
--- the products of two lists, summed from the front with both sums wrapped
-abbrev pub with_product : ℕ → ℕ × ℕ → ℕ
-with_product r p = (r + (p.0 * p.1) % 65536) % 65536
-
-pub dot_folded : (xs ys : List ℕ) → length ys ≡ length xs → fold with_product 0 (zip xs ys) ≡ dot (length xs) (at xs) (at ys) % 65536
-dot_folded xs ys e =
-    ap (fold with_product 0) (sym (take_all (length xs) (zip xs ys) (omega (arith, length-zip xs ys)))) ∙ front (length xs) (le_refl (length xs))
-  where
-    front : (n : ℕ) → n ≤ length xs → fold with_product 0 (take n (zip xs ys)) ≡ dot n (at xs) (at ys) % 65536
-    front zero h = refl
-    front (suc n) h =
-        ap (λ m. fold with_product 0 (take m (zip xs ys))) (sym (add-one n))
-        ∙ fold_more with_product 0 (zip xs ys) n (0, 0) (omega (arith, length-zip xs ys))
-        ∙ ap (with_product (fold with_product 0 (take n (zip xs ys)))) (get_or-zip xs ys n (0, 0) (omega arith) (omega arith))
-        ∙ dot_more 65536 n (at xs) (at ys) _ (front n (omega arith))
-        ∙ ap (λ m. dot m (at xs) (at ys) % 65536) (add-one n)
-
-pub dot_same : (n : ℕ) (a b s u : ℕ → ℕ) → ((t : ℕ) → t < n → a t ≡ b t) → ((t : ℕ) → t < n → s t ≡ u t) → dot n a s ≡ dot n b u
+dot_same : (n : ℕ) (a b s u : ℕ → ℕ) → ((t : ℕ) → t < n → a t ≡ b t) → ((t : ℕ) → t < n → s t ≡ u t) → dot n a s ≡ dot n b u
 dot_same zero a b s u d e = refl
 dot_same (suc n) a b s u d e = λ i. dot_same n a b s u (λ t q. d t (omega arith)) (λ t q. e t (omega arith)) i + d n (omega arith) i * e n (omega arith) i
+
+-- m terms and the n that follow
+dot_split : (m n : ℕ) (a s : ℕ → ℕ) → dot (m + n) a s ≡ dot m a s + dot n (λ t. a (m + t)) (λ t. s (m + t))
+dot_split m zero a s =
+    ap (λ k. dot k a s) (let e : m + 0 ≡ m = omega arith in e) ∙ (let e : dot m a s ≡ dot m a s + 0 = omega arith in e)
+dot_split m (suc n) a s =
+    ap (λ k. dot k a s) (let e : m + suc n ≡ suc (m + n) = omega arith in e)
+    ∙ ap (λ z. z + a (m + n) * s (m + n)) (dot_split m n a s)
+    ∙ sym_assoc (dot m a s) (dot n (λ t. a (m + t)) (λ t. s (m + t))) (a (m + n) * s (m + n))
+  where
+    sym_assoc : (x y z : ℕ) → x + y + z ≡ x + (y + z)
+    sym_assoc x y z = omega arith
+
+-- the same, with both sums wrapped
+pub dot_joined : (m n : ℕ) (a s b u : ℕ → ℕ) (x y : ℕ) → x ≡ dot m a s % 65536 → y ≡ dot n b u % 65536 →
+    ((t : ℕ) → t < n → b t ≡ a (m + t)) → ((t : ℕ) → t < n → u t ≡ s (m + t)) → (x + y) % 65536 ≡ dot (m + n) a s % 65536
+dot_joined m n a s b u x y e f d g =
+    same_sum 65536 x y (dot m a s) (dot n (λ t. a (m + t)) (λ t. s (m + t)))
+    (ap (λ z. z % 65536) e ∙ mod-mod (dot m a s) 65536)
+    (ap (λ z. z % 65536) f ∙ mod-mod (dot n b u) 65536 ∙ ap (λ z. z % 65536) (dot_same n b (λ t. a (m + t)) u (λ t. s (m + t)) d g))
+    ∙ ap (λ z. z % 65536) (sym (dot_split m n a s))
 
 -- the mask of a set's modulus, after a sum that wrapped at 2^16
 pub masked_sum : (s : Set) (x : ℕ) → bit_and (x % 65536) (modulus (number s) - 1) ≡ x % modulus (number s)
@@ -62,10 +56,6 @@ pub turned_from : (c n k : ℕ) → k < c * n → k % n * c + k / n < n * c
 turned_from c zero k h = absurd (omega (arith, mul-zero c))
 turned_from c (suc n) k h = omega (arith, mul-add-lt (k % suc n) c (k / suc n) (suc n) (mod-lt k (omega arith)) (div_below k (suc n) c (omega arith) h))
 
--- line l of c lines of n
-pub line_in : (l n c : ℕ) → l < c → l * n + n ≤ c * n
-line_in l n c h = omega (arith, mul-le (l + 1) n c n (omega arith) (le_refl n), add-mul l 1 n, one-mul n)
-
 part_at : (columns : List ℕ) (l n t : ℕ) → t < n → at (take ((l * n + n) - l * n) (drop (l * n) columns)) t ≡ at columns (l * n + t)
 part_at columns l n t h = get_or-take ((l * n + n) - l * n) (drop (l * n) columns) t 0 (omega arith) ∙ get_or-drop (l * n) columns t 0
 
@@ -78,15 +68,6 @@ row_made s n row columns e l r h =
     ap (λ z. bit_and z (q - 1)) (ap (λ z. (z + e) % 65536) h ∙ mod-add-mod d 65536 e)
     ∙ masked_sum s (d + e)
     ∙ ap (λ z. (z + e) % q) (dot_same n (at row) (at row) (at (take ((l * n + n) - l * n) (drop (l * n) columns))) (λ t. at columns (l * n + t)) (λ t k. refl) (λ t k. part_at columns l n t k))
-
--- one more entry after those from b on
-pub entry_more : (f : ℕ → ℕ) (xs : List ℕ) (b l v : ℕ) → b + l < length xs → v ≡ f l → ((k : ℕ) → k < l → at xs (b + k) ≡ f k) →
-    (k : ℕ) → k < l + 1 → at (set xs (b + l) v) (b + k) ≡ f k
-entry_more f xs b l v h e was =
-    below_more _ l (λ k q. get_or-set_other xs (b + l) (b + k) v 0 (λ o. omega arith) ∙ was k q) (get_or-set_same xs (b + l) v 0 h ∙ e)
-
-pub entry_kept : (xs ys : List ℕ) (b l v : ℕ) → ((k : ℕ) → k < b → at xs k ≡ at ys k) → (k : ℕ) → k < b → at (set xs (b + l) v) k ≡ at ys k
-entry_kept xs ys b l v was k q = get_or-set_other xs (b + l) k v 0 (λ o. omega arith) ∙ was k q
 
 -- a row made of its row of A is the product's
 pub row_is : (q n c : ℕ) (matrix : ℕ → ℕ → ℕ) (v : ℕ → ℕ) (row columns : List ℕ) (i l e : ℕ) → l < c →
@@ -108,7 +89,3 @@ lines_more f xs ys i c before was fresh m h =
           let e : i * c + (m - i * c) ≡ m = omega arith in
           subst (λ k. at ys k ≡ f k) e (fresh (m - i * c) (omega (arith, add-mul i 1 c, one-mul c)))
     ]
-
--- row i of a list of rows
-pub part_of : (xs : List ℕ) (b e t : ℕ) → t < e - b → at (take (e - b) (drop b xs)) t ≡ at xs (b + t)
-part_of xs b e t h = get_or-take (e - b) (drop b xs) t 0 h ∙ get_or-drop b xs t 0

@@ -30,7 +30,7 @@ gathered_long (v ∷ vs) (f ∷ fs) e = more (eqb f 1) _ _ (gathered_long vs fs 
     more true n ps h = ap suc h
     more false n ps h = h
 
-pub gathered_at : (values flags : List ℕ) (m : ℕ) (d : ℕ × ℕ) → length flags ≡ length values → m < ones flags → (get_or (gathered values flags) m d).0 ≡ at values (kept_index flags m)
+gathered_at : (values flags : List ℕ) (m : ℕ) (d : ℕ × ℕ) → length flags ≡ length values → m < ones flags → (get_or (gathered values flags) m d).0 ≡ at values (kept_index flags m)
 gathered_at [] [] m d e h = absurd (omega arith)
 gathered_at [] (f ∷ fs) m d e h = absurd (omega arith)
 gathered_at (v ∷ vs) [] m d e h = absurd (omega arith)

@@ -1,3 +1,4 @@
+pub mod Chunks
 pub mod Sizes
 pub mod Dots
 pub mod Streams

@@ -1,27 +1,23 @@
 -- Pairs of bytes from the front of a stream.
-use Rattle.std.proofs.Common.{◌≡◌, ℕ, ◌+◌, ◌*◌, ◌%◌, ◌<◌, List, [], map, get_or, drop, ap, ◌∙◌, arith}
+use Rattle.std.proofs.Common.{◌≡◌, ℕ, ◌+◌, ◌*◌, ◌%◌, ◌<◌, List, [], map, get_or, ap, ◌∙◌, arith}
 use Rattle.std.specs.List.{range_with_len}
 use Rattle.std.specs.Simd.{first_chunks}
-use Rattle.std.proofs.lemmas.List.{get_or-take, get_or-drop}
 use Rattle.std.proofs.lemmas.List.FromFn.{fill_by_all, get_or-map-range_with_len, length-map-range_with_len}
 use Rattle.protocol.specs.Residues.{residue_in}
 use Rattle.protocol.specs.Streams.{first_bytes, stream_word}
 use Rattle.digest.proofs.Chunks.{chunk_at}
 use Rattle.lattice.specs.Lines.{at}
+use Rattle.lattice.proofs.Chunks.{chunk_at}
 
--- byte j of pair t
-pair_at : (bs : List ℕ) (k t j : ℕ) → t < k → j < 2 → at (get_or (first_chunks 2 k bs) t []) j ≡ at bs (2 * t + j)
-pair_at bs k t j h b =
-    ap (λ z. at z j) (chunk_at 2 k bs t [] h) ∙ get_or-take 2 (drop (t * 2) bs) j 0 b ∙ get_or-drop (t * 2) bs j 0
-    ∙ ap (at bs) (let e : t * 2 + j ≡ 2 * t + j = omega arith in e)
-
+-- the two bytes of pair t
 pub word_of_pair : (bs : List ℕ) (pairs : List (List ℕ)) (k t : ℕ) → pairs ≡ first_chunks 2 k bs → t < k →
     at (get_or pairs t []) 0 + at (get_or pairs t []) 1 * 256 ≡ stream_word (at bs) t
 word_of_pair bs pairs k t e h =
-    (λ i. at (get_or (e i) t []) 0 + at (get_or (e i) t []) 1 * 256)
-    ∙ (λ i. pair_at bs k t 0 h (omega arith) i + pair_at bs k t 1 h (omega arith) i * 256)
-    ∙ (let s : at bs (2 * t + 0) + at bs (2 * t + 1) * 256 ≡ at bs (2 * t + 0) + 256 * at bs (2 * t + 1) = omega arith in s)
-    ∙ ap (λ n. at bs n + 256 * at bs (2 * t + 1)) (let z : 2 * t + 0 ≡ 2 * t = omega arith in z)
+    let low : at (get_or pairs t []) 0 ≡ at bs (2 * t) =
+    ap (λ ps. at (get_or ps t []) 0) e ∙ chunk_at 2 bs k t 0 h (omega arith) ∙ ap (at bs) (omega arith) in
+    let high : at (get_or pairs t []) 1 ≡ at bs (2 * t + 1) =
+    ap (λ ps. at (get_or ps t []) 1) e ∙ chunk_at 2 bs k t 1 h (omega arith) ∙ ap (at bs) (omega arith) in
+    omega (arith, low, high)
 
 front_at : (s : ℕ → ℕ) (n k : ℕ) → k < n → at (first_bytes s n) k ≡ s k
 unfolding first_bytes

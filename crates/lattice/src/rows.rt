@@ -63,6 +63,7 @@ pub fn multiply(
     let n = row.len();
     let (s, errors) = secrets.split_at(n * c);
     turn(n, c, s, columns);
+    // No `chunks_exact_mut` over the lines of out: no contract tells what is written through it.
     for i in 0..n {
         matrix_row(set, i as u16, seed, row);
         multiply_row(set, c, i, row, columns, errors, out);

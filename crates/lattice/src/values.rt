@@ -33,11 +33,7 @@ pub fn sample(set: Set, word: u16) -> i8
 pub fn residue(set: Set, value: i8) -> u16
     ensures { result ≡ residue (modulus (number set)) value }
 {
-    if value < 0 {
-        (set.modulus() - value.unsigned_abs() as u32) as u16
-    } else {
-        value as u16
-    }
+    i16::from(value).cast_unsigned() & set.mask()
 }
 
 /// A value as a byte, in two's complement.

@@ -6,25 +6,21 @@ mod tests {
     use lattice::kept::gather_kept;
     use lattice::product::multiply_row;
     use lattice::rows::{matrix_row, multiply};
-    use protocol::set::Set;
-    use lattice::sums::{complete, sum_all, sum_others};
+    use lattice::set::Set;
+    use lattice::sums::Rows;
     use lattice::values::{sample, sample_all};
 
     const SEED: [u8; 16] = [0, 1, 2, 3, 4, 5, 6, 7, 8, 9, 10, 11, 12, 13, 14, 15];
 
     fn fold(numbers: &[u16]) -> u32 {
-        let mut sum = 0u32;
-        for x in numbers {
-            sum = sum.wrapping_mul(31).wrapping_add(*x as u32);
-        }
-        sum
+        numbers.iter().fold(0u32, |sum, x| sum.wrapping_mul(31).wrapping_add(*x as u32))
     }
 
     // first, first + step, first + 2·step, .. modulo 2^16
     fn fill(numbers: &mut [u16], first: u16, step: u16) {
         let mut next = first;
-        for k in 0..numbers.len() {
-            numbers[k] = next;
+        for x in numbers.iter_mut() {
+            *x = next;
             next = next.wrapping_add(step);
         }
     }
@@ -89,12 +85,24 @@ mod tests {
         let mut rows = [0; 35];
         fill(&mut rows, 9, 40503);
         let mut row = [9; 7];
-        sum_all(Set::One, 5, &rows, &mut row);
+        let in_one = Rows {
+            set: Set::One,
+            parties: 5,
+            width: 7,
+            rows: &rows,
+        };
+        let in_two = Rows {
+            set: Set::Two,
+            parties: 5,
+            width: 7,
+            rows: &rows,
+        };
+        in_one.sum_all(&mut row);
         assert!(rt; row == [17207, 23114, 29021, 2160, 8067, 13974, 19881]);
-        sum_others(Set::Two, 5, 2, &rows, &mut row);
+        in_two.sum_others(2, &mut row);
         assert!(rt; row == [39980, 5384, 36324, 1728, 32668, 63608, 29012]);
         let whole = [1000, 1001, 1002, 1003, 1004, 1005, 1006];
-        complete(Set::One, 5, 2, &whole, &rows, &mut row);
+        in_one.complete(2, &whole, &mut row);
         assert!(rt; row == [26556, 28385, 30214, 32043, 1104, 2933, 4762]);
     }
 

@@ -17,4 +17,4 @@ loop-l-preserved c =
     below_more (λ k. at _ k ≡ row_entry (modulus (number c.args.set)) n row columns (at c.args.errors.now k) k) l
     (λ k h. get_or-set_other c.loop-l.line l k _ 0 (λ o. omega arith) ∙ c.loop-l.invariant k h)
     (get_or-set_same c.loop-l.line l _ 0 (omega arith)
-    ∙ ap (bit_and _) c.mask.ensures ∙ row_made c.args.set n row columns e l c.inner.result c.inner.ensures)
+    ∙ ap (bit_and _) c.mask.ensures ∙ row_made c.args.set n row columns e l c.inner_in_pieces.result c.inner_in_pieces.ensures)

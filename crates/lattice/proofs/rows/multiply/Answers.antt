@@ -1,4 +1,4 @@
-use Rattle.std.proofs.Common.{◌≡◌, ◌+◌, ◌*◌, length, get_or, sym, ap, ◌∙◌, le_refl, arith}
+use Rattle.std.proofs.Common.{◌≡◌, ◌+◌, ◌*◌, length, get_or, ap, ◌∙◌, le_refl, arith}
 use Rattle.std.proofs.lemmas.Nat.{mul-add-lt, mul-le}
 use Rattle.std.proofs.lemmas.List.FromFn.{fill_by_all, get_or-map-range_with_len}
 use Rattle.std.proofs.lemmas.List.{get_or-take, get_or-drop}
@@ -6,17 +6,9 @@ use Rattle.protocol.specs.Parameters.{modulus}
 use Rattle.protocol.specs.Residues.{matrix, product}
 use Rattle.keccak.specs.Sponge.{shake128}
 use Rattle.lattice.specs.Lines.{at, row_entry}
-use Rattle.protocol.specs.Sets.{number}
-use Rattle.lattice.proofs.Dots.{line_in, row_is, lines_more}
+use Rattle.lattice.specs.Sets.{number}
+use Rattle.lattice.proofs.Dots.{row_is, lines_more}
 use Rattle.lattice.proofs.rows.multiply.Goals as goal
-
-pub multiply_row-requires : goal.multiply_row-requires
-multiply_row-requires c =
-    let w = c.args.c in
-    let long : length c.matrix_row.new.row ≡ length c.args.row.now = omega arith in
-    let wide : length c.turn.new.columns ≡ w * length c.args.row.now = omega arith in
-    let h = line_in c.loop-i.i w (length c.args.row.now) c.loop-i-test.true in
-    record { columns = wide ∙ ap (λ z. w * z) (sym long); errors = omega arith; room = omega arith }
 
 pub loop-i-preserved : goal.loop-i-preserved
 loop-i-preserved c =

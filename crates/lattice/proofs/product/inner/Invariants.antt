@@ -1,0 +1,7 @@
+use Rattle.std.proofs.Common.{◌≡◌, ◌%◌, length}
+use Rattle.protocol.specs.Residues.{dot}
+use Rattle.lattice.specs.Lines.{at}
+use Rattle.lattice.proofs.product.inner.Given as goal
+
+abbrev pub invariant-loop-x : goal.invariant-loop-x
+invariant-loop-x l = l.sum ≡ dot (length l.yielded) (at l.a) (at l.b) % 65536
