@@ -1,5 +1,4 @@
-use Rattle.std.proofs.Common.{◌≡◌, ℕ, ◌/◌, ◌<◌, List, [], length, get_or, sym, refl, ap, ◌∙◌, arith, length-set}
-use Rattle.std.proofs.lemmas.List.{take_all}
+use Rattle.std.proofs.Common.{◌≡◌, ℕ, ◌/◌, ◌<◌, List, [], length, get_or, refl, ap, ◌∙◌, arith, length-set}
 use Rattle.std.specs.Int.{from_be_bytes, w64}
 use Rattle.sha512.specs.Sha512.{block_word, schedule}
 use Rattle.sha512.proofs.Schedules.{block_word_is, schedule_block, schedule_next}
@@ -28,9 +27,3 @@ loop-t-2-preserved c =
       simp length-set (omega arith),
       schedule_next c.args.block.now c.loop-t-2.words c.loop-t-2.t _ (omega arith) (omega arith) c.loop-t-2.invariant.1 c.next_word.ensures,
     )
-
-pub returns : goal.returns
-returns c =
-    let end : c.loop-t-2.t ≡ 80 = omega arith in
-    let long : length c.loop-t-2.words ≡ 80 = c.loop-t-2.invariant.0 in
-    sym (take_all c.loop-t-2.t c.loop-t-2.words (omega arith)) ∙ c.loop-t-2.invariant.1 ∙ ap (schedule c.args.block.now) end

@@ -1,17 +1,10 @@
-use Rattle.std.proofs.Common.{List, ℕ, ◌-◌, [], ◌++◌, take, sym, refl, subst, ap, ◌∙◌, append_assoc, arith}
-use Rattle.std.proofs.lemmas.List.{append-nil, take_all}
+use Rattle.std.proofs.Common.{List, ℕ, ◌-◌, [], ◌++◌, take, sym, refl, subst, ap, ◌∙◌, append_assoc}
+use Rattle.std.proofs.lemmas.List.{take_all}
 use Rattle.std.specs.List.{concat}
 use Rattle.sha512.specs.Hashing.{HasTaken}
 use Rattle.sha512.proofs.Absorbing.{taken_more, concat_more}
 use Rattle.sha512.proofs.Blocks.{in_blocks}
 use Rattle.sha512.proofs.hasher.Hasher.take.Goals as goal
-
-pub loop-block-init : goal.loop-block-init
-loop-block-init c = (
-  omega (arith, c.take_few-2.ensures.total, c.split_at.ensures.front_len),
-  subst (λ x. HasTaken x c.args.self.now c.take_few-2.new.self)
-      (c.split_at.ensures.front ∙ sym (append-nil (take (128 - c.filled-room.result) c.args.bytes.now))) c.take_few-2.ensures,
-)
 
 pub loop-block-preserved : goal.loop-block-preserved
 loop-block-preserved c =
@@ -24,9 +17,6 @@ loop-block-preserved c =
           (append_assoc front (concat (take c.loop-block.block-index blocks)) _
           ∙ ap (λ x. front ++ x) (sym (concat_more blocks c.loop-block.block-index [] c.loop-block-test.true))) more,
     )
-
-pub take_few-requires-3 : goal.take_few-requires-3
-take_few-requires-3 c = omega (arith, c.loop-block.invariant.0, c.as_chunks.ensures.back_len)
 
 pub returns : goal.returns
 returns c =
