@@ -5,8 +5,11 @@ use Rattle.protocol.specs.Book.{State, Intact, appended, entries_of, entry_bytes
 use Rattle.protocol.specs.Entry.{Entry}
 use Rattle.protocol.specs.Header.{parameters_of}
 use Rattle.protocol.specs.Layout.{entry_length}
+use Rattle.protocol.specs.Of.{parameters}
 use Rattle.protocol.specs.Parameters.{Parameters, flag_length}
 use Rattle.guarantee.proofs.Books.{Holds, holds_held, holds_more, length-entry, length-entries}
+use Rattle.book.specs.declared.entry.NewEntry.{NewEntry}
+use Rattle.book.specs.Of.{entry_of}
 use Rattle.book.proofs.Forms.{formed, told, all_told, formed_push}
 
 -- an entry has as many bytes as its header tells
@@ -41,27 +44,35 @@ few s (fits, lies, well) =
     let f = length-take-le s.used s.memory fits in
     omega arith
 
--- an entry that there is room for, by the numbers of its header
-module _ (s : State) (a : Entry) (p : Parameters) (well : well_formed a ≡ true) (head : p ≡ parameters_of a.bytes)
-    (room : s.used + entry_length p ≤ length s.memory) where
-  pub lay_room : s.used + (4 + (length a.bytes + (length a.hidden + flag_length p))) ≤ length s.memory
-  lay_room =
-      let form = formed a well in
+-- an entry that was handed in
+module _ (e : NewEntry) where
+  abbrev a : Entry
+  a = entry_of e
+
+  abbrev p : Parameters
+  p = parameters e.header
+
+  -- it is as long as its parts are
+  pub sized : entry_length p ≡ 4 + (length a.bytes + (length a.hidden + flag_length p))
+  sized =
+      let form = formed a e.well in
       let long = form.long in
       let hidden = form.hidden_long in
-      let size : entry_length p ≡ entry_length (parameters_of a.bytes) = ap entry_length head in
-      let flags : flag_length p ≡ flag_length (parameters_of a.bytes) = ap flag_length head in
+      let size : entry_length p ≡ entry_length (parameters_of a.bytes) = ap entry_length e.head in
+      let flags : flag_length p ≡ flag_length (parameters_of a.bytes) = ap flag_length e.head in
       omega arith
 
-  pub added : (memory : List ℕ) (size : ℕ) → memory ≡ wrote s.used (entry_bytes a) s.memory → size ≡ entry_length p →
+  pub added : (s : State) (memory : List ℕ) (size : ℕ) → memory ≡ wrote s.used (entry_bytes a) s.memory → size ≡ entry_length p →
       record { memory = memory; used = s.used + size; count = s.count + 1 } ≡ appended s a
-  added memory size laid-there is = λ i. record {
-    memory = laid-there i;
-    used = s.used + (is ∙ ap entry_length head ∙ sym (entry_long a well)) i;
+  added s memory size there is = λ i. record {
+    memory = there i;
+    used = s.used + (is ∙ ap entry_length e.head ∙ sym (entry_long a e.well)) i;
     count = s.count + 1;
   }
 
-  pub intact_added : Intact s → (memory : List ℕ) (size : ℕ) → memory ≡ wrote s.used (entry_bytes a) s.memory → size ≡ entry_length p →
+  pub intact_added : (s : State) → Intact s → s.used + entry_length p ≤ length s.memory → (memory : List ℕ) (size : ℕ) →
+      memory ≡ wrote s.used (entry_bytes a) s.memory → size ≡ entry_length p →
       Intact (record { memory = memory; used = s.used + size; count = s.count + 1 })
-  intact_added intact memory size laid-there is =
-      subst Intact (sym (added memory size laid-there is)) (intact_more s a intact well (subst (λ q. s.used + entry_length q ≤ length s.memory) head room))
+  intact_added s intact room memory size there is =
+      subst Intact (sym (added s memory size there is))
+      (intact_more s a intact e.well (subst (λ q. s.used + entry_length q ≤ length s.memory) e.head room))

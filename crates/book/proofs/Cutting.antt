@@ -1,41 +1,95 @@
--- The parts of an entry, from where it lies.
-use Rattle.std.proofs.Common.{◌≡◌, ℕ, ◌+◌, ◌<◌, List, ◌++◌, length, get_or, take, drop, sym, ap, ◌∙◌, arith}
-use Rattle.std.proofs.lemmas.List.{drop-drop, drop-take, take-take, take_at, drop_at}
-use Rattle.protocol.specs.Book.{State, Intact, entries_of, entry_from, no_entry}
-use Rattle.protocol.specs.Bytes.{part}
-use Rattle.guarantee.proofs.Books.{held_of_packed, length-entries}
-use Rattle.book.specs.declared.place.Place.{Place}
+-- The parts of the entry at the front of some bytes.
+use Rattle.std.proofs.Common.{◌≡◌, ℕ, ◌+◌, ◌<◌, List, ◌≤◌, ◌++◌, length, take, drop, Some, Option, MatchOption, Bor, Ok, Err, Result, IsOk, refl, sym, ap, ◌∙◌, append_assoc, length-append, arith}
+use Rattle.std.specs.Int.{from_le_bytes, w32}
+use Rattle.std.proofs.lemmas.List.{take_at, drop_at}
+use Rattle.std.proofs.lemmas.Option.{MatchOption-at_some}
+use Rattle.std.proofs.lemmas.Nat.{from_le_bytes-to_le_bytes_4}
+use Rattle.protocol.specs.declared.fault.Fault.{Fault}
+use Rattle.protocol.specs.declared.header.Header.{Header}
+use Rattle.protocol.specs.Book.{entry_at, entry_from, size_at}
+use Rattle.protocol.specs.Entry.{Entry}
+use Rattle.protocol.specs.Flags.{packed}
+use Rattle.protocol.specs.Header.{parameters_of, reads_header, header_tests}
+use Rattle.protocol.specs.Of.{parameters, read_as}
+use Rattle.protocol.specs.Parameters.{Parameters, flag_length}
+use Rattle.guarantee.proofs.Books.{held_of_packed, length-packed}
+use Rattle.guarantee.proofs.Keeping.{WellFormed}
+use Rattle.guarantee.proofs.Passing.{passed}
 use Rattle.book.specs.declared.stored.Stored.{Stored}
-use Rattle.book.specs.Entries.{Found}
-use Rattle.book.specs.Places.{Stands}
-use Rattle.book.proofs.Forms.{told, formed_at}
+use Rattle.book.specs.Entries.{Shows, Begins}
+use Rattle.book.proofs.Forms.{formed, heads, told}
 
--- two lists end to end, as two parts
-split : (bytes : List ℕ) (at n m : ℕ) (xs ys : List ℕ) → part bytes at (n + m) ≡ xs ++ ys → length xs ≡ n → (part bytes at n ≡ xs) × (part bytes (at + n) m ≡ ys)
-split bytes at n m xs ys both long = (
-  sym (take-take n (n + m) (drop at bytes) (omega arith)) ∙ ap (take n) both ∙ take_at xs ys n long,
-  ap (take m) (sym (drop-drop n at bytes)) ∙ sym (drop-take n m (drop at bytes)) ∙ ap (drop n) both ∙ drop_at xs ys n long,
+-- two lists end to end, cut between them
+parted : (whole xs ys front back : List ℕ) (n : ℕ) → whole ≡ xs ++ ys → n ≡ length xs → front ≡ take n whole → back ≡ drop n whole →
+    (front ≡ xs) × (back ≡ ys)
+parted whole xs ys front back n both long f b = (
+  f ∙ ap (take n) both ∙ take_at xs ys n (sym long),
+  b ∙ ap (drop n) both ∙ drop_at xs ys n (sym long),
 )
 
-pub found : (s : State) (k : ℕ) (p : Place) (r : Stored) → Intact s → k < s.count → Stands (get_or (entries_of s) k no_entry) s.memory p →
-    r.«record».now ≡ part s.memory (p.at + 4) p.«record» →
-    r.hidden.now ≡ part s.memory (p.at + 4 + p.«record») p.hidden →
-    r.flags.now ≡ part s.memory (p.at + 4 + p.«record» + p.hidden) p.flags → Found s k r
-found s k p r (fits, lies, all) there st bytes hidden flags =
-    let a = get_or (entries_of s) k no_entry in
-    let well = formed_at (entries_of s) k no_entry all (let n = length-entries s.count s.memory in omega arith) in
-    let one = split s.memory (p.at + 4) p.«record» (p.hidden + p.flags) a.bytes _ st.holds (sym st.record_long) in
-    let two = split s.memory (p.at + 4 + p.«record») p.hidden p.flags a.hidden _ one.1 (sym st.hidden_long) in
-    let record_is = bytes ∙ one.0 in
-    let hidden_is = hidden ∙ two.0 in
-    let flags_is = flags ∙ two.1 in
-    record {
-      there = there;
-      shows = record {
-        record_is = record_is;
-        hidden_is = hidden_is;
-        flags_is = flags_is;
-        tells = (λ i. entry_from (record_is i) (hidden_is i) (flags_is i)) ∙ held_of_packed a (told a well);
-      };
-      well = well;
-    }
+within : (whole xs ys : List ℕ) (n : ℕ) → whole ≡ xs ++ ys → n ≡ length xs → n ≤ length whole
+within whole xs ys n both long = let e = ap length both in let l = length-append xs ys in omega arith
+
+module _ (bytes : List ℕ) (b : Begins bytes) where
+  abbrev a : Entry
+  a = entry_at bytes
+
+  abbrev p : Parameters
+  p = parameters_of a.bytes
+
+  abbrev flagged : List ℕ
+  flagged = packed a.flags (flag_length p)
+
+  abbrev more : List ℕ
+  more = drop (size_at bytes) bytes
+
+  form : WellFormed a
+  form = formed a b.well
+
+  -- behind the length field
+  body : drop 4 bytes ≡ a.bytes ++ (a.hidden ++ (flagged ++ more))
+  body = ap (drop 4) b.whole ∙ append_assoc a.bytes (a.hidden ++ flagged) more ∙ ap (λ z. a.bytes ++ z) (append_assoc a.hidden flagged more)
+
+  -- the length field and what is behind it, cut off, and then so many bytes
+  pub record_read : (cut : Option (Bor (List ℕ) × Bor (List ℕ))) (head : Bor (List ℕ) × Bor (List ℕ)) (front back : List ℕ) (n : ℕ) →
+      MatchOption cut (length bytes < 4) (λ h. (h.0.now ≡ take 4 bytes) × (h.1.now ≡ drop 4 bytes) × (length h.1.now + 4 ≡ length bytes)) →
+      cut ≡ Some head → n ≡ from_le_bytes w32 head.0.now → front ≡ take n head.1.now → back ≡ drop n head.1.now →
+      (front ≡ a.bytes) × (back ≡ a.hidden ++ (flagged ++ more))
+  record_read cut head front back n cases is number =
+      let h = MatchOption-at_some _ _ head is cases in
+      let long : n ≡ length a.bytes =
+      number ∙ ap (from_le_bytes w32) (h.0 ∙ ap (take 4) b.whole) ∙ from_le_bytes-to_le_bytes_4 (length a.bytes) (told a b.well).brief in
+      parted head.1.now a.bytes (a.hidden ++ (flagged ++ more)) front back n (h.1 ∙ body) long
+
+  accepted : (r : List ℕ) (answer : Result Header Fault) → read_as answer ≡ reads_header r → r ≡ a.bytes → read_as answer ≡ Ok p
+  accepted r answer says is = says ∙ ap reads_header is ∙ passed (header_tests a.bytes) p (heads a b.well)
+
+  pub header_read : (r : List ℕ) (answer : Result Header Fault) → read_as answer ≡ reads_header r → r ≡ a.bytes → IsOk answer
+  header_read r (Ok x) says is = refl
+  header_read r (Err f) says is = let e = accepted r (Err f) says is in absurd cc
+
+  pub header_is : (r : List ℕ) (answer : Result Header Fault) (x : Header) → read_as answer ≡ reads_header r → r ≡ a.bytes → answer ≡ Ok x →
+      parameters x ≡ p
+  header_is r answer x says is ok = let e = sym (ap read_as ok) ∙ accepted r answer says is in cc
+
+  pub hidden_there : (rest : List ℕ) (n : ℕ) → rest ≡ a.hidden ++ (flagged ++ more) → n ≡ p.tau → n ≤ length rest
+  hidden_there rest n is tau = within rest a.hidden (flagged ++ more) n is (tau ∙ sym form.hidden_long)
+
+  pub hidden_read : (rest front back : List ℕ) (n : ℕ) → rest ≡ a.hidden ++ (flagged ++ more) → n ≡ p.tau →
+      front ≡ take n rest → back ≡ drop n rest → (front ≡ a.hidden) × (back ≡ flagged ++ more)
+  hidden_read rest front back n is tau = parted rest a.hidden (flagged ++ more) front back n is (tau ∙ sym form.hidden_long)
+
+  pub flags_there : (rest : List ℕ) (n : ℕ) → rest ≡ flagged ++ more → n ≡ flag_length p → n ≤ length rest
+  flags_there rest n is size = within rest flagged more n is (size ∙ sym (length-packed a.flags (flag_length p)))
+
+  pub flags_read : (rest front back : List ℕ) (n : ℕ) → rest ≡ flagged ++ more → n ≡ flag_length p →
+      front ≡ take n rest → back ≡ drop n rest → (front ≡ flagged) × (back ≡ more)
+  flags_read rest front back n is size = parted rest flagged more front back n is (size ∙ sym (length-packed a.flags (flag_length p)))
+
+  pub shown : (r : Stored) → r.«record».now ≡ a.bytes → r.hidden.now ≡ a.hidden → r.flags.now ≡ flagged → Shows a r
+  shown r record_is hidden_is flags_is = record {
+    record_is = record_is;
+    hidden_is = hidden_is;
+    flags_is = flags_is;
+    tells = (λ i. entry_from (record_is i) (hidden_is i) (flags_is i)) ∙ held_of_packed a (told a b.well);
+  }

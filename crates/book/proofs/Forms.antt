@@ -54,6 +54,11 @@ formed a e =
       body = (passes_decides (body_tests a.bytes p)).0 seven.1;
     }
 
+-- the header at the front of its record is accepted
+pub heads : (a : Entry) → well_formed a ≡ true → Passes (header_tests a.bytes)
+unfolding well_formed
+heads a e = (passes_decides (header_tests a.bytes)).0 (and_parts (passes (header_tests a.bytes)) _ e).0
+
 -- for a call that has tested an entry
 pub well_formed_from : (a : Entry) → Passes (header_tests a.bytes) → WellFormed a → well_formed a ≡ true
 unfolding well_formed

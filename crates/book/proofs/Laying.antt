@@ -1,39 +1,41 @@
--- Bytes written one part behind the other.
-use Rattle.std.proofs.Common.{◌≡◌, ℕ, ◌+◌, ◌≤◌, List, ◌++◌, length, take, drop, sym, ap, ◌∙◌, append_assoc, arith, length-append, length-drop}
+-- The bytes of an entry, part by part.
+use Rattle.std.proofs.Common.{◌≡◌, ℕ, ◌+◌, ◌-◌, ◌≤◌, List, ◌++◌, length, take, drop, sym, ap, ◌∙◌, append_assoc, append-nil, arith, length-append, length-drop}
+use Rattle.std.proofs.lemmas.List.{drop-drop, take_all, drop_all}
 use borrow.Rule.Slice.PartMut.{put_mid}
-use Rattle.std.proofs.lemmas.List.{drop-drop, take_at, drop_at, length-take-le}
-use Rattle.protocol.specs.Book.{wrote}
+use Rattle.protocol.specs.Book.{entry_bytes, wrote}
+use Rattle.protocol.specs.Bytes.{le32, part}
+use Rattle.protocol.specs.Entry.{Entry}
+use Rattle.protocol.specs.Flags.{packed}
+use Rattle.protocol.specs.Header.{parameters_of}
+use Rattle.protocol.specs.Parameters.{flag_length}
+use Rattle.guarantee.proofs.Books.{length-packed}
 
--- what a write to a part of the memory leaves
-pub put_wrote : (at n : ℕ) (old part bytes : List ℕ) → part ≡ bytes → n ≡ length bytes → put_mid at n old part ≡ wrote at bytes old
-put_wrote at n old part bytes is long = λ i. take at old ++ (is i ++ (drop-drop n at old ∙ ap (λ k. drop (at + k) old) long) i)
+-- the record's length, the record, the hidden parties, the flags, and what was behind so many bytes
+pub joined : (a : Entry) (old one two three four rest : List ℕ) (n : ℕ) → n ≡ flag_length (parameters_of a.bytes) →
+    one ≡ le32 (length a.bytes) → two ≡ a.bytes → three ≡ a.hidden →
+    four ≡ packed a.flags n → rest ≡ drop n (drop (length a.hidden) (drop (length a.bytes) (drop 4 old))) →
+    one ++ (two ++ (three ++ (four ++ rest))) ≡ entry_bytes a ++ drop (length (entry_bytes a)) old
+joined a old one two three four rest n size is_one is_two is_three is_four left =
+    let flagged = packed a.flags (flag_length (parameters_of a.bytes)) in
+    let x = length-append a.bytes (a.hidden ++ flagged) in
+    let y = length-append a.hidden flagged in
+    let z = length-packed a.flags (flag_length (parameters_of a.bytes)) in
+    let tail = drop (length (entry_bytes a)) old in
+    let behind : rest ≡ tail =
+    left ∙ ap (λ l. drop n (drop (length a.hidden) l)) (drop-drop (length a.bytes) 4 old)
+    ∙ ap (drop n) (drop-drop (length a.hidden) (4 + length a.bytes) old)
+    ∙ drop-drop n (4 + length a.bytes + length a.hidden) old
+    ∙ ap (λ k. drop k old) (let e : 4 + length a.bytes + length a.hidden + n ≡ length (entry_bytes a) = omega arith in e) in
+    (λ i. is_one i ++ (is_two i ++ (is_three i ++ ((is_four ∙ ap (packed a.flags) size) i ++ behind i))))
+    ∙ ap (λ l. le32 (length a.bytes) ++ l) (sym (append_assoc a.bytes (a.hidden ++ flagged) tail ∙
+    ap (λ l. a.bytes ++ l) (append_assoc a.hidden flagged tail)))
 
-pub length-wrote : (at : ℕ) (bytes old : List ℕ) → at + length bytes ≤ length old → length (wrote at bytes old) ≡ length old
-length-wrote at bytes old room =
-    let front = length-take-le at old (omega arith) in
-    let rest = length-drop (at + length bytes) old in
-    let one = length-append (take at old) (bytes ++ drop (at + length bytes) old) in
-    let two = length-append bytes (drop (at + length bytes) old) in
-    omega arith
-
-wrote_both : (at next : ℕ) (xs ys old : List ℕ) → next ≡ at + length xs → at ≤ length old → wrote next ys (wrote at xs old) ≡ wrote at (xs ++ ys) old
-wrote_both at next xs ys old is h =
-    let rest = drop (at + length xs) old in
-    let front : length (take at old ++ xs) ≡ next = let f = length-take-le at old h in let l = length-append (take at old) xs in omega arith in
-    let apart : wrote at xs old ≡ (take at old ++ xs) ++ rest = sym (append_assoc (take at old) xs rest) in
-    let before : take next (wrote at xs old) ≡ take at old ++ xs = ap (take next) apart ∙ take_at (take at old ++ xs) rest next front in
-    let behind : drop (next + length ys) (wrote at xs old) ≡ drop (at + length (xs ++ ys)) old =
-    sym (drop-drop (length ys) next (wrote at xs old)) ∙ ap (λ z. drop (length ys) (drop next z)) apart ∙ ap (drop (length ys)) (drop_at (take at old ++ xs) rest next front)
-    ∙ drop-drop (length ys) (at + length xs) old ∙ ap (λ k. drop k old) (let l = length-append xs ys in let z : at + length xs + length ys ≡ at + length (xs ++ ys) = omega arith in z) in
-    (λ i. before i ++ (ys ++ behind i)) ∙ append_assoc (take at old) xs _ ∙ ap (λ z. take at old ++ z) (sym (append_assoc xs ys _))
-
--- the four parts of an entry: the record's length, the record, the hidden parties, the flags
-pub four_parts : (at : ℕ) (a b c d m0 m1 m2 m3 m4 : List ℕ) → at ≤ length m0 → length a ≡ 4 → m1 ≡ wrote at a m0 → m2 ≡ wrote (at + 4) b m1 →
-    m3 ≡ wrote (at + 4 + length b) c m2 → m4 ≡ wrote (at + 4 + length b + length c) d m3 → m4 ≡ wrote at (a ++ (b ++ (c ++ d))) m0
-four_parts at a b c d m0 m1 m2 m3 m4 h four e1 e2 e3 e4 =
-    let two : m2 ≡ wrote at (a ++ b) m0 = e2 ∙ ap (wrote (at + 4) b) e1 ∙ wrote_both at (at + 4) a b m0 (omega arith) h in
-    let ab = length-append a b in
-    let three : m3 ≡ wrote at ((a ++ b) ++ c) m0 = e3 ∙ ap (wrote (at + 4 + length b) c) two ∙ wrote_both at _ (a ++ b) c m0 (omega arith) h in
-    let abc = length-append (a ++ b) c in
-    e4 ∙ ap (wrote (at + 4 + length b + length c) d) three ∙ wrote_both at _ ((a ++ b) ++ c) d m0 (omega arith) h
-    ∙ ap (λ z. wrote at z m0) (append_assoc (a ++ b) c d ∙ append_assoc a b (c ++ d))
+-- what a write over the front of all that follows a place leaves
+pub over : (at : ℕ) (bytes old new : List ℕ) → at ≤ length old → new ≡ bytes ++ drop (length bytes) (part old at (length old - at)) →
+    put_mid at (length old - at) old new ≡ wrote at bytes old
+over at bytes old new h is =
+    let long : length (drop at old) ≤ length old - at = let l = length-drop at old in omega arith in
+    let behind : drop (length bytes) (part old at (length old - at)) ≡ drop (at + length bytes) old =
+    ap (drop (length bytes)) (take_all (length old - at) (drop at old) long) ∙ drop-drop (length bytes) at old in
+    (λ i. take at old ++ ((is ∙ ap (λ l. bytes ++ l) behind) i ++ drop_all (length old - at) (drop at old) long i))
+    ∙ ap (λ l. take at old ++ l) (append-nil (bytes ++ drop (at + length bytes) old))

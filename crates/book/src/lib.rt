@@ -3,7 +3,7 @@
 
 pub mod book;
 pub mod calls;
+pub mod cut;
+pub mod entry;
 pub mod lay;
-pub mod measure;
-pub mod place;
 pub mod stored;

@@ -1,6 +1,8 @@
 //! The header's tests, the reader and the lengths, on tables of cases.
 #![tactic(auto)]
 
+ghost use Rattle.std.specs.Prelude.{◌+◌, ◌≤◌};
+
 #[cfg(test)]
 mod tests {
     use protocol::fault::Fault;
@@ -36,49 +38,41 @@ mod tests {
         209, 82,
     ];
 
-    // two bytes of a header, in the place of those at an offset, and the refusal's number and place, 0 and 0 for none
+    // two bytes in the place of those at an offset of a header, and the number and place of the refusal that is due, if one is
     #[derive(Clone, Copy)]
     struct Case {
         at: usize,
-        low: u8,
-        high: u8,
-        number: u8,
-        place: usize,
+        bytes: [u8; 2],
+        due: Option<(u8, usize)>,
+        ghost inside: { at + 2 ≤ 15 },
     }
 
-    const fn edit(at: usize, low: u8, high: u8, number: u8, place: usize) -> Case {
+    const fn edit(at: usize, low: u8, high: u8, due: Option<(u8, usize)>) -> Case
+        requires { at + 2 ≤ 15 }
+    {
         Case {
             at,
-            low,
-            high,
-            number,
-            place,
+            bytes: [low, high],
+            due,
         }
     }
 
-    // what is said of an answer: the refusal's number and place, or 0 and 0
-    fn said(answer: Result<Header, Fault>) -> (u8, usize) {
-        match answer {
-            Ok(_) => (0, 0),
-            Err(fault) => (fault.number(), fault.place()),
-        }
+    // the number and place of a refusal, if the answer is one
+    fn said(answer: Result<Header, Fault>) -> Option<(u8, usize)> {
+        answer.err().map(|fault| (fault.number(), fault.place()))
     }
 
     fn changed(header: &[u8; 15], case: Case) -> [u8; 15] {
         let mut bytes = *header;
-        if case.at < 14 {
-            bytes[case.at] = case.low;
-            bytes[case.at + 1] = case.high;
-        }
+        bytes[case.at..case.at + 2].copy_from_slice(&case.bytes);
         bytes
     }
 
     // a bare header, one at the front of more bytes, and the encoding of what was read
     fn judge(rt: &impl Abort, header: &[u8; 15], case: Case) {
         let bytes = changed(header, case);
-        let due = (case.number, case.place);
-        assert_eq!(rt; said(check_header(&bytes)), due);
-        assert_eq!(rt; said(read_header(&bytes)), due);
+        assert_eq!(rt; said(check_header(&bytes)), case.due);
+        assert_eq!(rt; said(read_header(&bytes)), case.due);
         if let Ok(header) = check_header(&bytes) {
             assert!(rt; encode_header(header) == bytes);
         }
@@ -96,16 +90,16 @@ mod tests {
             &rt,
             &SMALL,
             &[
-                edit(0, 75, 80, 0, 0),
-                edit(0, 74, 80, 2, 0),
-                edit(0, 75, 81, 2, 0),
-                edit(1, 80, 79, 2, 0),
-                edit(3, 0, 0, 3, 3),
-                edit(3, 2, 0, 3, 3),
-                edit(3, 1, 1, 3, 3),
+                edit(0, 75, 80, None),
+                edit(0, 74, 80, Some((2, 0))),
+                edit(0, 75, 81, Some((2, 0))),
+                edit(1, 80, 79, Some((2, 0))),
+                edit(3, 0, 0, Some((3, 3))),
+                edit(3, 2, 0, Some((3, 3))),
+                edit(3, 1, 1, Some((3, 3))),
                 // the mark is tested before the version, and the version before the limits
-                edit(2, 0, 2, 2, 0),
-                edit(4, 1, 9, 3, 3),
+                edit(2, 0, 2, Some((2, 0))),
+                edit(4, 1, 9, Some((3, 3))),
             ],
         );
     }
@@ -117,33 +111,33 @@ mod tests {
             &SMALL,
             &[
                 // set, with the low byte of n beside it
-                edit(5, 0, 1, 4, 5),
-                edit(5, 1, 1, 0, 0),
-                edit(5, 3, 1, 0, 0),
-                edit(5, 4, 1, 4, 5),
+                edit(5, 0, 1, Some((4, 5))),
+                edit(5, 1, 1, None),
+                edit(5, 3, 1, None),
+                edit(5, 4, 1, Some((4, 5))),
                 // n
-                edit(6, 0, 0, 4, 6),
-                edit(6, 65, 5, 4, 6),
-                edit(6, 255, 255, 4, 6),
+                edit(6, 0, 0, Some((4, 6))),
+                edit(6, 65, 5, Some((4, 6))),
+                edit(6, 255, 255, Some((4, 6))),
                 // c, with the low byte of M beside it
-                edit(8, 0, 4, 4, 8),
-                edit(8, 9, 255, 4, 8),
+                edit(8, 0, 4, Some((4, 8))),
+                edit(8, 9, 255, Some((4, 8))),
                 // M: sigma is 2
-                edit(9, 2, 0, 4, 9),
-                edit(9, 3, 0, 0, 0),
-                edit(9, 0, 128, 0, 0),
-                edit(9, 1, 128, 4, 9),
+                edit(9, 2, 0, Some((4, 9))),
+                edit(9, 3, 0, None),
+                edit(9, 0, 128, None),
+                edit(9, 1, 128, Some((4, 9))),
                 // h, with tau beside it
-                edit(11, 0, 1, 4, 11),
-                edit(11, 8, 1, 0, 0),
-                edit(11, 9, 1, 4, 11),
+                edit(11, 0, 1, Some((4, 11))),
+                edit(11, 8, 1, None),
+                edit(11, 9, 1, Some((4, 11))),
                 // tau, with the low byte of a beside it
-                edit(12, 0, 0, 4, 12),
-                edit(12, 64, 0, 0, 0),
-                edit(12, 65, 0, 4, 12),
+                edit(12, 0, 0, Some((4, 12))),
+                edit(12, 64, 0, None),
+                edit(12, 65, 0, Some((4, 12))),
                 // a
-                edit(13, 0, 4, 0, 0),
-                edit(13, 1, 4, 4, 13),
+                edit(13, 0, 4, None),
+                edit(13, 1, 4, Some((4, 13))),
             ],
         );
     }
@@ -155,42 +149,42 @@ mod tests {
             &TALL,
             &[
                 // 1344 rows pass, 1345 do not, whatever M is
-                edit(6, 64, 5, 0, 0),
-                edit(6, 65, 5, 4, 6),
+                edit(6, 64, 5, None),
+                edit(6, 65, 5, Some((4, 6))),
                 // M at sigma, and one above it
-                edit(9, 128, 10, 4, 9),
-                edit(9, 129, 10, 0, 0),
+                edit(9, 128, 10, Some((4, 9))),
+                edit(9, 129, 10, None),
                 // set and n, n and c, h and tau both past their limits
-                edit(5, 4, 0, 4, 5),
-                edit(7, 6, 9, 4, 6),
-                edit(11, 9, 65, 4, 11),
+                edit(5, 4, 0, Some((4, 5))),
+                edit(7, 6, 9, Some((4, 6))),
+                edit(11, 9, 65, Some((4, 11))),
             ],
         );
         judge_all(
             &rt,
             &BROAD,
             &[
-                edit(8, 8, 17, 0, 0),
-                edit(8, 8, 16, 4, 9),
-                edit(8, 9, 17, 4, 8),
+                edit(8, 8, 17, None),
+                edit(8, 8, 16, Some((4, 9))),
+                edit(8, 9, 17, Some((4, 8))),
             ],
         );
     }
 
     #[test]
     fn every_truncation(rt: HostRuntime) {
-        for n in 0..203usize {
+        for n in 0..RECORD.len() {
             let due = if n < 15 { (1, 0) } else { (5, 203) };
-            assert_eq!(rt; said(read_record(&RECORD[0..n])), due);
+            assert_eq!(rt; said(read_record(&RECORD[..n])), Some(due));
         }
-        assert_eq!(rt; said(read_record(&RECORD)), (0, 0));
+        assert_eq!(rt; said(read_record(&RECORD)), None);
     }
 
     #[test]
     fn one_byte_more(rt: HostRuntime) -> Result<(), Fail> {
         let mut longer = RECORD.to_vec(rt.alloc())?;
         longer.push(0)?;
-        assert_eq!(rt; said(read_record(longer.as_slice())), (5, 203));
+        assert_eq!(rt; said(read_record(longer.as_slice())), Some((5, 203)));
         Ok(())
     }
 

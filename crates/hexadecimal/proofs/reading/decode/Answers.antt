@@ -38,7 +38,8 @@ loop-k-preserved c =
     let l = c.in_ok-low.low in
     let at = at_pair text _ _ k c.as_chunks.ensures.front c.as_bytes.ensures.value (omega arith) in
     let ok : is_ok c.push.result ≡ true = search rules in
-    let pushed : vec_items c.push.new.self ≡ bs ++ (16 * h + l) ∷ [] = c.push.ensures.items ∙ cond-true (is_ok c.push.result) (bs ++ (16 * h + l) ∷ []) bs ok in
+    let pushed : vec_items c.push.new.self ≡ bs ++ (16 * h + l) ∷ [] =
+    c.push.ensures.items ∙ cond-true (is_ok c.push.result) (bs ++ (16 * h + l) ∷ []) bs ok in
     let on : 2 * k + 1 + 1 ≡ 2 * (k + 1) = omega arith in
     subst (λ xs. Read text xs (2 * (k + 1))) (sym pushed)
     (subst (Read text (bs ++ (16 * h + l) ∷ [])) on
@@ -53,7 +54,8 @@ returns-in_err-value_at-in-len1-up c =
     let at = at_rest text _ _ c.as_chunks.ensures.back c.as_bytes.ensures.value (omega arith) in
     let p = err_from_is_err_and c.from_residual-in_err-value_at-in-len1-up.result c.from_residual-in_err-value_at-in-len1-up.ensures.1 in
     let h = c.in_err-value_at-in-len1-up.ensures in
-    rw (p.1, p.2, h.1) (inr (stopped text bs (length text - 1) (omega arith) (ap value (sym at) ∙ h.0) (subst (Read text bs) last c.loop-k.invariant)))
+    rw (p.1, p.2, h.1) (inr (stopped text bs (length text - 1) (omega arith) (ap value (sym at) ∙ h.0)
+    (subst (Read text bs) last c.loop-k.invariant)))
 
 pub returns-in_ok-value_at-in-len1-up : goal.returns-in_ok-value_at-in-len1-up
 returns-in_ok-value_at-in-len1-up c =

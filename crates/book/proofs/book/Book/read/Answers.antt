@@ -1,19 +1,10 @@
-use Rattle.std.proofs.Common.{sym, refl, ◌∙◌}
+use Rattle.std.proofs.Common.{rules}
+use Rattle.book.specs.Entries.{Found}
 use Rattle.book.specs.Of.{state_of}
-use Rattle.book.proofs.Outputs.{due_of, reads_short, reads_all, copied}
+use Rattle.book.proofs.Outputs.{due_small}
 use Rattle.book.proofs.book.Book.read.Goals as goal
 
-pub returns-then-out-due : goal.returns-then-out-due
-returns-then-out-due c =
-    let s = state_of c.args.self.now in record {
-      says = reads_short s c.args.k _ _ c.if-k-self.false (due_of _ _ _ c.place-place.ensures ∙ sym c.length-due.ensures) c.if-out-due.true;
-      writes = refl;
-    }
-
-pub returns : goal.returns
-returns c =
-    let s = state_of c.args.self.now in record {
-      says = reads_all s c.args.k _ _ c.if-k-self.false (due_of _ _ _ c.place-place.ensures ∙ sym c.length-due.ensures) c.if-out-due.false;
-      writes = copied _ s.memory c.args.out.now c.copy_from_slice.new.self c.place-place.result _ c.length-due.result c.place-place.ensures refl
-          c.length-due.ensures c.copy_from_slice.ensures.after;
-    }
+pub length-due-requires : goal.length-due-requires
+length-due-requires c =
+    let found : Found (state_of c.args.self.now) c.args.k c.in_ok-entry.entry = search rules in
+    due_small _ _ found.well found.shows
