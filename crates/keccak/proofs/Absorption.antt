@@ -1,12 +1,32 @@
 -- How the state that a sponge ends in is kept as it takes a text by blocks.
-use Rattle.std.proofs.Common.{◌≡◌, ℕ, suc, ◌+◌, ◌-◌, ◌/◌, ◌<◌, ◌≤◌, List, [], ◌∷◌, ◌++◌, length, get_or, take, drop, set, replicate, sym, ap, ◌∙◌, ap₂, append_assoc, add-one, arith, length-append, length-set}
+use Rattle.std.proofs.Common.{◌≡◌, ℕ, zero, suc, ◌+◌, ◌-◌, ◌*◌, ◌/◌, ◌^◌, ◌<◌, lit<, add-zero, ◌≤◌, List, [], ◌∷◌, ◌++◌, length, get_or, take, drop, set, replicate, sym, ap, ◌∙◌, ap₂, append_assoc, add-one, arith, length-append, length-set}
 use native.Mathlib.Nat.{add-div_left, div-eq_of_lt}
 use lib.Bits.{bit_xor}
 use lib.Seq.{paste}
+use borrow.Rule.Slice.PartMut.{put_mid}
 use Rattle.std.proofs.lemmas.List.Edits.{take-paste}
 use Rattle.std.proofs.lemmas.Simd.{length-chunk, chunk-drop}
-use Rattle.std.proofs.lemmas.List.{take_at, drop_at, take_all, take_more_set, take-set, length-take-le, replicate_more}
-use Rattle.keccak.specs.Sponge.{absorbed, absorbs, suffixed, padded, sponge}
+use Rattle.std.specs.Int.{w64, from_le_bytes}
+use Rattle.std.specs.Simd.{first_chunks}
+use Rattle.std.proofs.lemmas.List.{get_or-take, get_or-drop, take_at, drop_at, take_all, take_more_set, drop_all, append-nil, length-take-le, length-drop}
+use Rattle.keccak.specs.Sponge.{lane_of, absorbed, absorbs, suffixed, padded, sponge}
+
+-- byte k of word i of a block
+word_byte : (n : ℕ) (b : List ℕ) (i k : ℕ) → i < n → k < 8 → get_or (get_or (first_chunks 8 n b) i []) k 0 ≡ get_or b (8 * i + k) 0
+word_byte zero b i k h l = absurd (omega arith)
+word_byte (suc n) b zero k h l = let e : k ≡ 8 * 0 + k = omega arith in get_or-take 8 b k 0 l ∙ ap (λ j. get_or b j 0) e
+word_byte (suc n) b (suc i) k h l =
+    let e : 8 + (8 * i + k) ≡ 8 * suc i + k = omega arith in
+    word_byte n (drop 8 b) i k (omega arith) l ∙ get_or-drop 8 b (8 * i + k) 0 ∙ ap (λ j. get_or b j 0) e
+
+-- word i of a block, as a number, is lane i
+pub word_lane : (n : ℕ) (b : List ℕ) (i x : ℕ) → i < n → x ≡ from_le_bytes w64 (get_or (first_chunks 8 n b) i []) → x ≡ lane_of b i
+unfolding lane_of
+word_lane n b i x h is =
+    let byte = word_byte n b i in
+    let e : get_or b (8 * i + 0) 0 ≡ get_or b (8 * i) 0 = ap (λ j. get_or b j 0) (add-zero (8 * i)) in
+    is ∙ (λ z. (byte 0 h (lit< tt) ∙ e) z + byte 1 h (lit< tt) z * 2 ^ 8 + byte 2 h (lit< tt) z * 2 ^ 16 + byte 3 h (lit< tt) z * 2 ^ 24
+    + byte 4 h (lit< tt) z * 2 ^ 32 + byte 5 h (lit< tt) z * 2 ^ 40 + byte 6 h (lit< tt) z * 2 ^ 48 + byte 7 h (lit< tt) z * 2 ^ 56)
 
 -- a whole block first
 pub whole : (r : ℕ) (s b x : List ℕ) → 0 < r → length b ≡ r → sponge r s (b ++ x) ≡ sponge r (absorbed r s b) x
@@ -61,41 +81,31 @@ many_taken s t u block head rest last full final bytes x filled gone some fills 
 
 -- ---- the last block
 
-pub pad_start : (b : List ℕ) (n : ℕ) → n < length b → take (n + 1) (set b n 31) ≡ take n (set b n 31) ++ 31 ∷ replicate ((n + 1) - (n + 1)) 0
-pad_start b n h =
-    let e : (n + 1) - (n + 1) ≡ 0 = omega arith in
-    rw (take_more_set b n 31 h, take-set b n 31, e)
-
-pub pad_more : (p b : List ℕ) (m k : ℕ) → m ≤ k → k < length b → take k b ≡ p ++ 31 ∷ replicate (k - m) 0
-    → take (k + 1) (set b k 0) ≡ p ++ 31 ∷ replicate ((k + 1) - m) 0
-pad_more p b m k le lt inv =
-    let e : (k - m) + 1 ≡ (k + 1) - m = omega arith in
-    take_more_set b k 0 lt ∙ ap (λ z. z ++ 0 ∷ []) inv ∙ append_assoc p (31 ∷ replicate (k - m) 0) (0 ∷ [])
-    ∙ ap (λ z. p ++ 31 ∷ z) (replicate_more (k - m) 0 ∙ ap (λ j. replicate j 0) e)
-
-pad_end : (r : ℕ) (b d : List ℕ) (n k : ℕ) → n < r → n ≤ length d → length b ≡ r → k ≡ r
-    → take k b ≡ take n d ++ 31 ∷ replicate (k - (n + 1)) 0 → b ≡ suffixed r (take n d)
-pad_end r b d n k lt le long end inv =
-    let l : length (take n d) ≡ n = length-take-le n d le in
-    let e : k - (n + 1) ≡ r - 1 - length (take n d) = omega arith in
-    sym (take_all k b (omega arith)) ∙ inv ∙ ap (λ j. take n d ++ 31 ∷ replicate j 0) e
+-- the block, with 31 and then zeros written behind the bytes that wait
+pub filled_up : (block zeros : List ℕ) (n k : ℕ) → n < length block → k ≡ length block - (n + 1) → zeros ≡ replicate k 0
+    → put_mid (n + 1) k (set block n 31) zeros ≡ suffixed (length block) (take n block)
+filled_up block zeros n k h is e =
+    let xs : List ℕ = set block n 31 in
+    let l : length xs ≡ length block = length-set block n 31 in
+    let z : drop k (drop (n + 1) xs) ≡ [] = drop_all k (drop (n + 1) xs) (omega (arith, length-drop (n + 1) xs)) in
+    let j : k ≡ length block - 1 - length (take n block) = omega (arith, length-take-le n block (omega arith)) in
+    ap (λ v. take (n + 1) xs ++ (zeros ++ v)) z ∙ ap (λ v. take (n + 1) xs ++ v) (append-nil zeros ∙ e ∙ ap (λ m. replicate m 0) j)
+    ∙ ap (λ v. v ++ replicate (length block - 1 - length (take n block)) 0) (take_more_set block n 31 h)
+    ∙ append_assoc (take n block) (31 ∷ []) (replicate (length block - 1 - length (take n block)) 0)
 
 -- fewer bytes than a block are padded and absorbed
 last_absorbed : (r : ℕ) (s m : List ℕ) → length m < r → absorbed r s (padded r m) ≡ sponge r s m
 unfolding sponge absorbs
 last_absorbed r s m h = let e : length m / r ≡ 0 = div-eq_of_lt h in ap (λ k. absorbs r s k m) (sym e)
 
-pub closed : (r : ℕ) (s t block b : List ℕ) (n k : ℕ) → n < r → length block ≡ r → length b ≡ r → k ≡ r
-    → take k b ≡ take n (set block n 31) ++ 31 ∷ replicate (k - (n + 1)) 0
+pub closed : (s t block b : List ℕ) (n r : ℕ) → n < length block → r ≡ length block → length b ≡ r → b ≡ suffixed (length block) (take n block)
     → t ≡ absorbed (length (set b (r - 1) (bit_xor (get_or b (r - 1) 0) 128))) s (set b (r - 1) (bit_xor (get_or b (r - 1) 0) 128))
-    → t ≡ sponge r s (take n block)
+    → t ≡ sponge (length block) s (take n block)
 unfolding padded
-closed r s t block b n k lt long same end inv taken =
+closed s t block b n r lt is long e taken =
     let held : List ℕ = take n block in
-    let l : length (set block n 31) ≡ r = length-set block n 31 ∙ long in
-    let e : b ≡ suffixed r held = pad_end r b (set block n 31) n k lt (omega arith) same end inv ∙ ap (suffixed r) (take-set block n 31) in
     let h : length held < r = omega (arith, length-take-le n block (omega arith)) in
     taken
-    ∙ ap (λ m. absorbed m s (set b (r - 1) (bit_xor (get_or b (r - 1) 0) 128))) (length-set b (r - 1) _ ∙ same)
-    ∙ ap (λ z. absorbed r s (set z (r - 1) (bit_xor (get_or z (r - 1) 0) 128))) e
-    ∙ last_absorbed r s held h
+    ∙ ap (λ m. absorbed m s (set b (r - 1) (bit_xor (get_or b (r - 1) 0) 128))) (length-set b (r - 1) _ ∙ long)
+    ∙ ap (λ z. absorbed r s (set z (r - 1) (bit_xor (get_or z (r - 1) 0) 128))) (e ∙ ap (λ m. suffixed m held) (sym is))
+    ∙ last_absorbed r s held h ∙ ap (λ m. sponge m s held) is

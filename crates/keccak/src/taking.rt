@@ -57,9 +57,7 @@ pub(crate) fn close(lanes: &mut [u64; 25], block: &mut [u8], filled: usize)
     ensures { lanes.new ≡ sponge (length block.old) lanes.old (take filled block.old) }
 {
     block[filled] = 0x1f;
-    for k in filled + 1..block.len() {
-        block[k] = 0;
-    }
+    block[filled + 1..].fill(0);
     let last = block.len() - 1;
     block[last] ^= 0x80;
     absorb(lanes, block);

@@ -1,22 +1,16 @@
-use Rattle.std.proofs.Common.{◌≡◌, ◌+◌, length, take, set, sym, refl, ap, ◌∙◌, arith, length-set}
-use Rattle.keccak.specs.Sponge.{sponge}
-use Rattle.keccak.proofs.Absorption.{pad_start, pad_more, closed}
+use Rattle.std.proofs.Common.{◌≡◌, ◌+◌, ◌-◌, length, set, replicate, ap, ◌∙◌, arith, length-set}
+use borrow.Rule.Slice.PartMut.{put_mid}
+use Rattle.keccak.proofs.Absorption.{filled_up, closed}
 use Rattle.keccak.proofs.taking.close.Goals as goal
-
-pub loop-k-init : goal.loop-k-init
-loop-k-init c = pad_start c.args.block.now c.args.filled c.requires.held
-
-pub loop-k-preserved : goal.loop-k-preserved
-loop-k-preserved c =
-    pad_more (take c.args.filled (set c.args.block.now c.args.filled 31)) c.loop-k.block (c.args.filled + 1) c.loop-k.k
-    (omega arith) (omega arith) c.loop-k.invariant
 
 pub returns : goal.returns
 returns c =
-    let r = length c.loop-k.block in
-    let s : length (set c.args.block.now c.args.filled 31) ≡ length c.args.block.now = simp length-set in
-    let l : length c.args.block.now ≡ r = omega arith in
-    let k : c.loop-k.k ≡ r = omega (arith, c.loop-k.auto.k-end (omega arith)) in
-    closed r c.args.lanes.now c.absorb.new.lanes c.args.block.now c.loop-k.block c.args.filled c.loop-k.k
-    (omega arith) l refl k c.loop-k.invariant c.absorb.ensures
-    ∙ ap (λ n. sponge n c.args.lanes.now (take c.args.filled c.args.block.now)) (sym l)
+    let block = c.args.block.now in
+    let n = c.args.filled in
+    let xs = set block n 31 in
+    let k = length xs - (n + 1) in
+    let l : length xs ≡ length block = length-set block n 31 in
+    let zeros = c.fill.new.self in
+    closed c.args.lanes.now c.absorb.new.lanes block (put_mid (n + 1) k xs zeros) n _ c.requires.held (omega arith) (omega arith)
+    (filled_up block zeros n k c.requires.held (omega arith) (c.fill.ensures.after (λ y e. e) ∙ ap (λ m. replicate m 0) (omega arith)))
+    c.absorb.ensures
