@@ -5,9 +5,9 @@ ghost use Rattle.keccak.specs.Sponge.{absorbed};
 use crate::permutation::permute;
 
 // Adds a block to the state, and permutes it; the rate is the block's length.
-pub(crate) fn absorb(lanes: &mut [u64; 25], block: &[u8])
-    requires { length block.now ≤ 200 }
-    ensures { lanes.new ≡ absorbed (length block.now) lanes.old block.now }
+pub(crate) fn absorb<const RATE: usize>(lanes: &mut [u64; 25], block: &[u8; RATE])
+    requires { RATE ≤ 200 }
+    ensures { lanes.new ≡ absorbed RATE lanes.old block.now }
 {
     let (words, _) = block.as_chunks::<8>();
     for (i, word) in words.iter().enumerate() {

@@ -1,4 +1,5 @@
 //! One round of the permutation: theta, then rho and pi together, then chi and iota.
+//! The lanes are written out: with a loop over them in any of the three, a permutation takes three times as long.
 ghost use Rattle.std.specs.Prelude.{◌≡◌};
 ghost use Rattle.keccak.specs.Keccak.{theta, rho, pi, chi, round};
 
