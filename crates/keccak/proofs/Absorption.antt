@@ -1,12 +1,38 @@
 -- How the state that a sponge ends in is kept as it takes a text by blocks.
-use Rattle.std.proofs.Common.{◌≡◌, ℕ, suc, ◌+◌, ◌-◌, ◌/◌, ◌<◌, ◌≤◌, List, [], ◌∷◌, ◌++◌, length, get_or, take, drop, set, replicate, sym, ap, ◌∙◌, ap₂, append_assoc, add-one, arith, length-append, length-set}
-use native.Mathlib.Nat.{add-div_left, div-eq_of_lt}
+use Rattle.std.proofs.Common.{◌≡◌, ℕ, zero, suc, ◌+◌, ◌-◌, ◌*◌, ◌/◌, ◌^◌, ◌<◌, lit<, add-zero, ◌≤◌, List, [], ◌∷◌, ◌++◌, length, get_or, take, drop, set, replicate, sym, ap, ◌∙◌, ap₂, append_assoc, add-one, arith, length-append, length-set}
+use native.Mathlib.Nat.{add-div_left, div-eq_of_lt, div-mul-le_self, mul-le-mul_right}
 use lib.Bits.{bit_xor}
 use lib.Seq.{paste}
+use borrow.Rule.Slice.PartMut.{put_mid}
 use Rattle.std.proofs.lemmas.List.Edits.{take-paste}
 use Rattle.std.proofs.lemmas.Simd.{length-chunk, chunk-drop}
-use Rattle.std.proofs.lemmas.List.{take_at, drop_at, take_all, take_more_set, take-set, length-take-le, replicate_more}
-use Rattle.keccak.specs.Sponge.{absorbed, absorbs, suffixed, padded, sponge}
+use Rattle.std.specs.Int.{w64, from_le_bytes}
+use Rattle.std.specs.Simd.{first_chunks}
+use Rattle.std.proofs.lemmas.List.{get_or-take, get_or-drop, drop-drop, take_at, drop_at, take_all, take_more_set, drop_all, append-nil, length-take-le, length-drop}
+use Rattle.keccak.specs.Sponge.{lane_of, absorbed, absorbs, suffixed, padded, sponge}
+
+-- chunk i of a list
+chunk_at : (r n : ℕ) (xs : List ℕ) (i : ℕ) (d : List ℕ) → i < n → get_or (first_chunks r n xs) i d ≡ take r (drop (i * r) xs)
+chunk_at r zero xs i d h = absurd (omega arith)
+chunk_at r (suc n) xs zero d h = let e : 0 ≡ 0 * r = omega arith in ap (λ m. take r (drop m xs)) e
+chunk_at r (suc n) xs (suc i) d h =
+    let e : r + i * r ≡ suc i * r = omega arith in
+    chunk_at r n (drop r xs) i d (omega arith) ∙ ap (take r) (drop-drop (i * r) r xs ∙ ap (λ m. drop m xs) e)
+
+-- byte k of word i of a block
+word_byte : (n : ℕ) (b : List ℕ) (i k : ℕ) → i < n → k < 8 → get_or (get_or (first_chunks 8 n b) i []) k 0 ≡ get_or b (8 * i + k) 0
+word_byte n b i k h l =
+    let e : i * 8 + k ≡ 8 * i + k = omega arith in
+    ap (λ w. get_or w k 0) (chunk_at 8 n b i [] h) ∙ get_or-take 8 (drop (i * 8) b) k 0 l ∙ get_or-drop (i * 8) b k 0 ∙ ap (λ j. get_or b j 0) e
+
+-- word i of a block, as a number, is lane i
+pub word_lane : (n : ℕ) (b : List ℕ) (i x : ℕ) → i < n → x ≡ from_le_bytes w64 (get_or (first_chunks 8 n b) i []) → x ≡ lane_of b i
+unfolding lane_of
+word_lane n b i x h is =
+    let byte = word_byte n b i in
+    let e : get_or b (8 * i + 0) 0 ≡ get_or b (8 * i) 0 = ap (λ j. get_or b j 0) (add-zero (8 * i)) in
+    is ∙ (λ z. (byte 0 h (lit< tt) ∙ e) z + byte 1 h (lit< tt) z * 2 ^ 8 + byte 2 h (lit< tt) z * 2 ^ 16 + byte 3 h (lit< tt) z * 2 ^ 24
+    + byte 4 h (lit< tt) z * 2 ^ 32 + byte 5 h (lit< tt) z * 2 ^ 40 + byte 6 h (lit< tt) z * 2 ^ 48 + byte 7 h (lit< tt) z * 2 ^ 56)
 
 -- a whole block first
 pub whole : (r : ℕ) (s b x : List ℕ) → 0 < r → length b ≡ r → sponge r s (b ++ x) ≡ sponge r (absorbed r s b) x
@@ -16,17 +42,19 @@ whole r s b x some h =
     ap (λ n. n / r) (length-append b x ∙ ap (λ n. n + length x) h) ∙ add-div_left (length x) some ∙ add-one (length x / r) in
     ap (λ k. absorbs r s k (b ++ x)) e ∙ ap₂ (λ p q. absorbs r (absorbed r s p) (length x / r) q) (take_at b x r h) (drop_at b x r h)
 
--- the block from `at` on, absorbed straight from the bytes
-pub block_absorbed : (r : ℕ) (s t bytes x : List ℕ) (at n : ℕ) → 0 < r → at + r ≤ length bytes → n ≡ r
-    → t ≡ absorbed (length (take n (drop at bytes))) s (take n (drop at bytes))
-    → sponge r t (drop (at + r) bytes ++ x) ≡ sponge r s (drop at bytes ++ x)
-block_absorbed r s t bytes x at n some le is e =
-    let b : List ℕ = take r (drop at bytes) in
-    let l : length b ≡ r = length-chunk at r bytes le in
-    let a : t ≡ absorbed r s b = e ∙ ap (λ k. absorbed (length (take k (drop at bytes))) s (take k (drop at bytes))) is ∙ ap (λ k. absorbed k s b) l in
-    ap (λ z. sponge r z (drop (at + r) bytes ++ x)) a
-    ∙ sym (whole r s b (drop (at + r) bytes ++ x) some l)
-    ∙ ap (sponge r s) (sym (append_assoc b (drop (at + r) bytes) x) ∙ ap (λ z. z ++ x) (sym (chunk-drop at r bytes)))
+-- block i of the bytes, absorbed straight from them
+pub block_absorbed : (r : ℕ) (s t bytes x b : List ℕ) (i : ℕ) → 0 < r → i < length bytes / r
+    → b ≡ get_or (first_chunks r (length bytes / r) bytes) i b → t ≡ absorbed r s b
+    → sponge r t (drop ((i + 1) * r) bytes ++ x) ≡ sponge r s (drop (i * r) bytes ++ x)
+block_absorbed r s t bytes x b i some h is taken =
+    let up : i + 1 ≤ length bytes / r = omega arith in
+    let le : i * r + r ≤ length bytes = omega (arith, mul-le-mul_right r up, div-mul-le_self (length bytes) r) in
+    let e : (i + 1) * r ≡ i * r + r = omega arith in
+    let here : b ≡ take r (drop (i * r) bytes) = is ∙ chunk_at r (length bytes / r) bytes i b h in
+    let rest : List ℕ = drop (i * r + r) bytes in
+    ap₂ (λ u n. sponge r u (drop n bytes ++ x)) taken e
+    ∙ sym (whole r s b (rest ++ x) some (ap length here ∙ length-chunk (i * r) r bytes le))
+    ∙ ap (sponge r s) (sym (append_assoc b rest x) ∙ ap (λ z. z ++ x) (ap (λ z. z ++ rest) here ∙ sym (chunk-drop (i * r) r bytes)))
 
 -- the bytes that wait, after more were put behind them
 pub waiting : (block bytes : List ℕ) (at : ℕ) → at ≤ length block → take (at + length bytes) (paste block at bytes (length bytes)) ≡ take at block ++ bytes
@@ -40,62 +68,46 @@ few_taken r s block bytes x filled le =
     ap (λ z. sponge r s (z ++ x)) (waiting block bytes filled le) ∙ ap (sponge r s) (append_assoc (take filled block) bytes x)
 
 -- the bytes that fill the block are absorbed with it, then whole blocks, and the rest waits
-pub many_taken : (s t u block head rest last full final bytes x : List ℕ) (filled gone : ℕ)
-    → 0 < length block → filled + length head ≡ length block → bytes ≡ head ++ rest
-    → full ≡ paste block filled head (length head) → length full ≡ length block → t ≡ absorbed (length full) s full
-    → ((y : List ℕ) → sponge (length full) u (drop gone rest ++ y) ≡ sponge (length full) t (rest ++ y))
-    → last ≡ drop gone rest → final ≡ paste full 0 last (length last)
-    → sponge (length block) u (take (length last) final ++ x) ≡ sponge (length block) s (take filled block ++ (bytes ++ x))
-many_taken s t u block head rest last full final bytes x filled gone some fills parts is-full long taken blocks is_last is-final =
-    let r = length block in
+pub many_taken : (r : ℕ) (s t u block head rest last full final bytes x : List ℕ) (filled : ℕ)
+    → 0 < r → length block ≡ r → filled + length head ≡ r → bytes ≡ head ++ rest
+    → full ≡ paste block filled head (length head) → length full ≡ r → t ≡ absorbed r s full
+    → ((y : List ℕ) → sponge r u (last ++ y) ≡ sponge r t (rest ++ y)) → final ≡ paste full 0 last (length last)
+    → sponge r u (take (length last) final ++ x) ≡ sponge r s (take filled block ++ (bytes ++ x))
+many_taken r s t u block head rest last full final bytes x filled some wide fills parts is_full long taken blocks is_final =
     let z : 0 + length last ≡ length last = omega arith in
-    let w : take (length last) final ≡ last = ap (λ k. take k final) (sym z) ∙ ap (take (0 + length last)) is-final ∙ waiting full last 0 (omega arith) in
+    let w : take (length last) final ≡ last = ap (λ k. take k final) (sym z) ∙ ap (take (0 + length last)) is_final ∙ waiting full last 0 (omega arith) in
     let f : full ≡ take filled block ++ head =
-    sym (take_all r full (omega arith)) ∙ ap (take r) is-full ∙ ap (λ k. take k (paste block filled head (length head))) (sym fills) ∙ waiting block head filled (omega arith) in
-    ap (λ v. sponge r u (v ++ x)) (w ∙ is_last)
-    ∙ ap (λ k. sponge k u (drop gone rest ++ x)) (sym long) ∙ blocks x ∙ ap (λ k. sponge k t (rest ++ x)) long
-    ∙ ap (λ v. sponge r v (rest ++ x)) (taken ∙ ap (λ k. absorbed k s full) long)
+    sym (take_all r full (omega arith)) ∙ ap (take r) is_full ∙ ap (λ k. take k (paste block filled head (length head))) (sym fills) ∙ waiting block head filled (omega arith) in
+    ap (λ v. sponge r u (v ++ x)) w ∙ blocks x ∙ ap (λ v. sponge r v (rest ++ x)) taken
     ∙ sym (whole r s full (rest ++ x) some long)
     ∙ ap (λ v. sponge r s (v ++ (rest ++ x))) f
     ∙ ap (sponge r s) (append_assoc (take filled block) head (rest ++ x) ∙ ap (λ v. take filled block ++ v) (sym (append_assoc head rest x) ∙ ap (λ v. v ++ x) (sym parts)))
 
 -- ---- the last block
 
-pub pad_start : (b : List ℕ) (n : ℕ) → n < length b → take (n + 1) (set b n 31) ≡ take n (set b n 31) ++ 31 ∷ replicate ((n + 1) - (n + 1)) 0
-pad_start b n h =
-    let e : (n + 1) - (n + 1) ≡ 0 = omega arith in
-    rw (take_more_set b n 31 h, take-set b n 31, e)
-
-pub pad_more : (p b : List ℕ) (m k : ℕ) → m ≤ k → k < length b → take k b ≡ p ++ 31 ∷ replicate (k - m) 0
-    → take (k + 1) (set b k 0) ≡ p ++ 31 ∷ replicate ((k + 1) - m) 0
-pad_more p b m k le lt inv =
-    let e : (k - m) + 1 ≡ (k + 1) - m = omega arith in
-    take_more_set b k 0 lt ∙ ap (λ z. z ++ 0 ∷ []) inv ∙ append_assoc p (31 ∷ replicate (k - m) 0) (0 ∷ [])
-    ∙ ap (λ z. p ++ 31 ∷ z) (replicate_more (k - m) 0 ∙ ap (λ j. replicate j 0) e)
-
-pad_end : (r : ℕ) (b d : List ℕ) (n k : ℕ) → n < r → n ≤ length d → length b ≡ r → k ≡ r
-    → take k b ≡ take n d ++ 31 ∷ replicate (k - (n + 1)) 0 → b ≡ suffixed r (take n d)
-pad_end r b d n k lt le long end inv =
-    let l : length (take n d) ≡ n = length-take-le n d le in
-    let e : k - (n + 1) ≡ r - 1 - length (take n d) = omega arith in
-    sym (take_all k b (omega arith)) ∙ inv ∙ ap (λ j. take n d ++ 31 ∷ replicate j 0) e
+-- the block, with 31 and then zeros written behind the bytes that wait
+pub filled_up : (r : ℕ) (block zeros : List ℕ) (n k : ℕ) → n < r → length block ≡ r → k ≡ r - (n + 1) → zeros ≡ replicate k 0
+    → put_mid (n + 1) k (set block n 31) zeros ≡ suffixed r (take n block)
+filled_up r block zeros n k h long is e =
+    let xs : List ℕ = set block n 31 in
+    let l : length xs ≡ length block = length-set block n 31 in
+    let none : drop k (drop (n + 1) xs) ≡ [] = drop_all k (drop (n + 1) xs) (omega (arith, length-drop (n + 1) xs)) in
+    let j : k ≡ r - 1 - length (take n block) = omega (arith, length-take-le n block (omega arith)) in
+    let tail : zeros ++ drop k (drop (n + 1) xs) ≡ replicate (r - 1 - length (take n block)) 0 =
+    ap (λ v. zeros ++ v) none ∙ append-nil zeros ∙ e ∙ ap (λ m. replicate m 0) j in
+    ap₂ (λ u v. u ++ v) (take_more_set block n 31 (omega arith)) tail
+    ∙ append_assoc (take n block) (31 ∷ []) (replicate (r - 1 - length (take n block)) 0)
 
 -- fewer bytes than a block are padded and absorbed
-last_absorbed : (r : ℕ) (s m : List ℕ) → length m < r → absorbed r s (padded r m) ≡ sponge r s m
+pub last_absorbed : (r : ℕ) (s m : List ℕ) → length m < r → absorbed r s (padded r m) ≡ sponge r s m
 unfolding sponge absorbs
 last_absorbed r s m h = let e : length m / r ≡ 0 = div-eq_of_lt h in ap (λ k. absorbs r s k m) (sym e)
 
-pub closed : (r : ℕ) (s t block b : List ℕ) (n k : ℕ) → n < r → length block ≡ r → length b ≡ r → k ≡ r
-    → take k b ≡ take n (set block n 31) ++ 31 ∷ replicate (k - (n + 1)) 0
-    → t ≡ absorbed (length (set b (r - 1) (bit_xor (get_or b (r - 1) 0) 128))) s (set b (r - 1) (bit_xor (get_or b (r - 1) 0) 128))
-    → t ≡ sponge r s (take n block)
+-- the bytes that wait are padded and absorbed
+pub closed : (r : ℕ) (s t block b : List ℕ) (n : ℕ) → n < r → length block ≡ r → b ≡ suffixed r (take n block)
+    → t ≡ absorbed r s (set b (r - 1) (bit_xor (get_or b (r - 1) 0) 128)) → t ≡ sponge r s (take n block ++ [])
 unfolding padded
-closed r s t block b n k lt long same end inv taken =
+closed r s t block b n lt long e taken =
     let held : List ℕ = take n block in
-    let l : length (set block n 31) ≡ r = length-set block n 31 ∙ long in
-    let e : b ≡ suffixed r held = pad_end r b (set block n 31) n k lt (omega arith) same end inv ∙ ap (suffixed r) (take-set block n 31) in
-    let h : length held < r = omega (arith, length-take-le n block (omega arith)) in
-    taken
-    ∙ ap (λ m. absorbed m s (set b (r - 1) (bit_xor (get_or b (r - 1) 0) 128))) (length-set b (r - 1) _ ∙ same)
-    ∙ ap (λ z. absorbed r s (set z (r - 1) (bit_xor (get_or z (r - 1) 0) 128))) e
-    ∙ last_absorbed r s held h
+    taken ∙ ap (λ z. absorbed r s (set z (r - 1) (bit_xor (get_or z (r - 1) 0) 128))) e
+    ∙ last_absorbed r s held (omega (arith, length-take-le n block (omega arith))) ∙ ap (sponge r s) (sym (append-nil held))

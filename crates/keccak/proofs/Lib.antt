@@ -1,2 +1,3 @@
 pub mod Absorption
 pub mod Makers
+pub mod Squeezed

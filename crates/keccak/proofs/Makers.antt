@@ -1,5 +1,5 @@
 -- What the calls of a SHAKE256 maker do to what it means, and SHAKE in one call.
-use Rattle.std.proofs.Common.{◌≡◌, ℕ, ◌+◌, ◌<◌, cond, eqb, List, [], ◌++◌, length, get_or, take, replicate, sym, refl, ap, ◌∙◌, subst, ap₂, zero-add, arith}
+use Rattle.std.proofs.Common.{◌≡◌, ℕ, ◌+◌, ◌<◌, cond, eqb, List, [], ◌++◌, length, get_or, take, replicate, refl, ap, ◌∙◌, ap₂, zero-add, arith}
 use Rattle.std.proofs.lemmas.List.FromFn.{fill_by_all}
 use Rattle.std.proofs.lemmas.List.{append-nil}
 use Rattle.std.proofs.lemmas.Bool.{cond-true, cond-false, eq-eqb, ne_eqb}
@@ -7,25 +7,22 @@ use Rattle.protocol.specs.Streams.{first_bytes}
 use Rattle.digest.specs.Making.{Making, Holding, Drew}
 use Rattle.keccak.specs.declared.state.Shake256.{Shake256}
 use Rattle.keccak.specs.Sponge.{sponge, stream, shake, shake256}
-use Rattle.keccak.specs.Meaning.{by_absorbing, by_squeezing, meaning, Blank}
+use Rattle.keccak.specs.declared.state.Sponge.{Sponge}
+use Rattle.keccak.specs.Meaning.{absorbing, giving, by_absorbing, by_squeezing, meaning, Blank}
 
 pub blank_holds : (s : Shake256) → Blank s → Holding shake256 [] (meaning s)
 unfolding shake
-blank_holds s (lanes, block, filled, used, taken, drawn) = record {
+blank_holds s ((lanes, block, filled, used), taken, drawn) = record {
   taken = taken;
   drawn = drawn;
   rule_is = λ x i.
       cond-true (eqb s.drawn 0) (by_absorbing s x i) (by_squeezing s i) (eq-eqb s.drawn 0 drawn)
-      ∙ ap₂ (λ a n. stream 136 (sponge 136 a (take n s.block ++ x)) i) lanes filled;
+      ∙ ap₂ (λ a n. stream 136 (sponge 136 a (take n s.sponge.block ++ x)) i) lanes filled;
 }
 
 -- once something was drawn, the lanes give what is to come
 pub once_drawn : (drawn a b : ℕ) → 0 < drawn → cond (eqb drawn 0) a b ≡ b
 once_drawn drawn a b h = cond-false (eqb drawn 0) a b (ne_eqb drawn 0 (λ e. omega arith))
-
--- a rate that is known
-pub at_rate : (r n : ℕ) (a b : List ℕ) (i j : ℕ) → r ≡ n → stream r a i ≡ stream r b j → stream n a i ≡ stream n b j
-at_rate r n a b i j e h = subst (λ m. stream m a i ≡ stream m b j) e h
 
 pub drew_none : (out : List ℕ) (m : Making) → length out ≡ 0 → Drew out m m
 unfolding first_bytes
@@ -48,11 +45,12 @@ drew_some out m m' some bytes taken drawn rest = record {
   undrawn = λ none x i. absurd (omega arith);
 }
 
--- SHAKE of a text: s is the state with the bytes `held` left to absorb, t the state with all absorbed
-pub shaken : (r : ℕ) (text held s t out : List ℕ) (n : ℕ) → length out ≡ n
-    → ((x : List ℕ) → sponge r s (held ++ x) ≡ sponge r (replicate 25 0) (text ++ x)) → t ≡ sponge r s held
-    → ((k : ℕ) → k < n → get_or out k 0 ≡ stream r t (0 + k)) → out ≡ first_bytes (shake r text) n
+-- SHAKE of a text, which the sponge t has taken; c is t closed
+pub shaken : (r : ℕ) (text out : List ℕ) (n : ℕ) (t c : Sponge r) → length out ≡ n
+    → ((x : List ℕ) → absorbing r t x ≡ sponge r (replicate 25 0) (text ++ x)) → c.lanes ≡ absorbing r t [] → c.used ≡ 0
+    → ((k : ℕ) → k < n → get_or out k 0 ≡ giving r c k) → out ≡ first_bytes (shake r text) n
 unfolding first_bytes shake
-shaken r text held s t out n long taken closed given =
-    let e : t ≡ sponge r (replicate 25 0) text = closed ∙ ap (sponge r s) (sym (append-nil held)) ∙ taken [] ∙ ap (sponge r (replicate 25 0)) (append-nil text) in
-    fill_by_all (stream r (sponge r (replicate 25 0) text)) out n 0 long (λ k h. given k h ∙ ap₂ (stream r) e (zero-add k))
+shaken r text out n t c long taken closed unused given =
+    let e : c.lanes ≡ sponge r (replicate 25 0) text = closed ∙ taken [] ∙ ap (sponge r (replicate 25 0)) (append-nil text) in
+    fill_by_all (stream r (sponge r (replicate 25 0) text)) out n 0 long
+    (λ k h. given k h ∙ ap₂ (stream r) e (ap (λ u. u + k) unused ∙ zero-add k))

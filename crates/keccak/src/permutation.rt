@@ -9,10 +9,7 @@ use crate::tables::ROUND_CONSTANTS;
 pub fn permute(lanes: &mut [u64; 25])
     ensures { lanes.new ≡ keccak_f lanes.old }
 {
-    let mut state = *lanes;
-    for i in 0..24 {
-        let next = one_round(state, ROUND_CONSTANTS[i]);
-        state = next;
+    for constant in ROUND_CONSTANTS {
+        one_round(lanes, constant);
     }
-    *lanes = state;
 }

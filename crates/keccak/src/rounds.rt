@@ -1,13 +1,7 @@
 //! One round of the permutation: theta, then rho and pi together, then chi and iota.
+//! The lanes are written out: with a loop over them in any of the three, a permutation takes three times as long.
 ghost use Rattle.std.specs.Prelude.{◌≡◌};
 ghost use Rattle.keccak.specs.Keccak.{theta, rho, pi, chi, round};
-
-// A lane rotated left by one.
-macro_rules! turned {
-    ($x:expr) => {
-        ($x << 1) | ($x >> 63)
-    };
-}
 
 // Adds to each lane the parities of two columns.
 fn mix_columns(a: [u64; 25]) -> [u64; 25]
@@ -18,11 +12,11 @@ fn mix_columns(a: [u64; 25]) -> [u64; 25]
     let c2 = a[2] ^ a[7] ^ a[12] ^ a[17] ^ a[22];
     let c3 = a[3] ^ a[8] ^ a[13] ^ a[18] ^ a[23];
     let c4 = a[4] ^ a[9] ^ a[14] ^ a[19] ^ a[24];
-    let d0 = c4 ^ turned!(c1);
-    let d1 = c0 ^ turned!(c2);
-    let d2 = c1 ^ turned!(c3);
-    let d3 = c2 ^ turned!(c4);
-    let d4 = c3 ^ turned!(c0);
+    let d0 = c4 ^ c1.rotate_left(1);
+    let d1 = c0 ^ c2.rotate_left(1);
+    let d2 = c1 ^ c3.rotate_left(1);
+    let d3 = c2 ^ c4.rotate_left(1);
+    let d4 = c3 ^ c0.rotate_left(1);
     [
         a[0] ^ d0,
         a[1] ^ d1,
@@ -119,10 +113,9 @@ fn mix_rows(a: [u64; 25]) -> [u64; 25]
 }
 
 // One round, with its constant.
-pub(crate) fn one_round(a: [u64; 25], constant: u64) -> [u64; 25]
-    ensures { result ≡ round a constant }
+pub(crate) fn one_round(lanes: &mut [u64; 25], constant: u64)
+    ensures { lanes.new ≡ round lanes.old constant }
 {
-    let mut next = mix_rows(spread(mix_columns(a)));
-    next[0] ^= constant;
-    next
+    *lanes = mix_rows(spread(mix_columns(*lanes)));
+    lanes[0] ^= constant;
 }

@@ -6,9 +6,8 @@ ghost use Rattle.keccak.specs.Meaning.{by_squeezing, still_to_come, meaning, Bla
 ghost use Rattle.keccak.specs.Squeezed.{shake_byte};
 ghost use Rattle.std.proofs.Common.{rules, arith};
 
-use crate::giving::squeeze;
 pub use crate::state::Shake256;
-use crate::taking::{close, take_in};
+use crate::state::Sponge;
 use digest::maker::{DigestMaker, LIMIT};
 use protocol::fault::Fault;
 
@@ -19,32 +18,39 @@ impl Shake256 {
     pub fn with_counts(taken: u64, drawn: u64) -> Result<Shake256, Fault>
         ensures answer { is_ok result ≡ (nat_le taken limit && nat_le drawn limit) }
         ensures counts { IfOk result (λ m. ((meaning m).taken ≡ taken) × ((meaning m).drawn ≡ drawn)) }
-        ensures new { IfOk result (λ m. (m.lanes ≡ replicate 25 0) × (m.block ≡ replicate 136 0) × (m.filled ≡ 0) × (m.used ≡ 0)) }
+        ensures new { IfOk result (λ m. (m.sponge.lanes ≡ replicate 25 0) × (m.sponge.block ≡ replicate 136 0) × (m.sponge.filled ≡ 0) × (m.sponge.used ≡ 0)) }
         ensures refusal { IfErr result (λ f. f ≡ Fault.PastLimit) }
     {
         if taken > LIMIT || drawn > LIMIT {
             return Err(Fault::PastLimit);
         }
-        Ok(Shake256 {
-            lanes: [0; 25],
-            block: [0; 136],
-            filled: 0,
-            used: 0,
-            taken,
-            drawn,
-        })
+        let mut maker = Shake256::blank();
+        maker.taken = taken;
+        maker.drawn = drawn;
+        Ok(maker)
+    }
+
+    // Zeros everywhere.
+    fn blank() -> Shake256
+        ensures { Blank result }
+    {
+        Shake256 {
+            sponge: Sponge {
+                lanes: [0; 25],
+                block: [0; 136],
+                filled: 0,
+                used: 0,
+            },
+            taken: 0,
+            drawn: 0,
+        }
     }
 
     // Zeros everywhere: nothing of a text stays.
     fn clear(&mut self)
         ensures { Blank self.new }
     {
-        self.lanes = [0; 25];
-        self.block = [0; 136];
-        self.filled = 0;
-        self.used = 0;
-        self.taken = 0;
-        self.drawn = 0;
+        *self = Shake256::blank();
     }
 
     // Ends the text, if nothing was drawn yet: what waits is padded and absorbed.
@@ -54,8 +60,7 @@ impl Shake256 {
         ensures drawn { self.new.drawn ≡ self.old.drawn }
     {
         if self.drawn == 0 {
-            close(&mut self.lanes, &mut self.block, self.filled);
-            self.used = 0;
+            self.sponge.close();
         }
     }
 }
@@ -70,14 +75,7 @@ impl DigestMaker for Shake256 {
     ghost within = { Prim.first_of (Prim.search rules, Prim.grind (arith, Self.row.coded.inj)) };
 
     fn new() -> Self {
-        Shake256 {
-            lanes: [0; 25],
-            block: [0; 136],
-            filled: 0,
-            used: 0,
-            taken: 0,
-            drawn: 0,
-        }
+        Shake256::blank()
     }
 
     fn begin(&mut self) {
@@ -92,7 +90,7 @@ impl DigestMaker for Shake256 {
         if more > LIMIT - self.taken {
             return Err(Fault::PastLimit);
         }
-        self.filled = take_in(&mut self.lanes, &mut self.block, self.filled, bytes);
+        self.sponge.take_in(bytes);
         self.taken += more;
         Ok(())
     }
@@ -106,7 +104,7 @@ impl DigestMaker for Shake256 {
             return Ok(());
         }
         self.end_text();
-        self.used = squeeze(&mut self.lanes, &mut self.block, self.used, out);
+        self.sponge.squeeze(out);
         self.drawn += more;
         Ok(())
     }

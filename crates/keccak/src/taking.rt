@@ -1,10 +1,11 @@
 //! How a sponge takes a text: whole blocks go straight into the state, and what is left of the text waits in a block of its own.
-//! The rate is the length of that block.
-ghost use Rattle.std.specs.Prelude.{◌≡◌, ℕ, ◌+◌, ◌<◌, ◌≤◌, List, ◌++◌, length, take, drop};
+ghost use Rattle.std.specs.Prelude.{◌≡◌, ℕ, ◌+◌, ◌<◌, ◌≤◌, List, [], ◌++◌, length};
 ghost use Rattle.std.proofs.Math.Seq.{paste};
 ghost use Rattle.keccak.specs.Sponge.{sponge};
+ghost use Rattle.keccak.specs.Meaning.{absorbing};
 
 use crate::block::absorb;
+use crate::state::Sponge;
 
 // Copies the bytes into a buffer, from a place on.
 pub(crate) fn put(out: &mut [u8], at: usize, bytes: &[u8])
@@ -14,53 +15,49 @@ pub(crate) fn put(out: &mut [u8], at: usize, bytes: &[u8])
     out[at..at + bytes.len()].copy_from_slice(bytes);
 }
 
-// Absorbs the whole blocks that the bytes begin with; answers where the rest begins.
-fn absorb_blocks(lanes: &mut [u64; 25], rate: usize, bytes: &[u8]) -> usize
-    requires some { 0 < rate }
-    requires fits { rate ≤ 200 }
-    ensures inside { result ≤ length bytes.now }
-    ensures short { length bytes.now < result + rate }
-    ensures same { (x : List ℕ) → sponge rate lanes.new (drop result bytes.now ++ x) ≡ sponge rate lanes.old (bytes.now ++ x) }
+// Absorbs the whole blocks that the bytes begin with; answers the rest.
+fn absorb_blocks<'a, const RATE: usize>(lanes: &mut [u64; 25], bytes: &'a [u8]) -> &'a [u8]
+    requires some { 0 < RATE }
+    requires fits { RATE ≤ 200 }
+    ensures short { length result.now < RATE }
+    ensures same { (x : List ℕ) → sponge RATE lanes.new (result.now ++ x) ≡ sponge RATE lanes.old (bytes.now ++ x) }
 {
-    let mut at = 0;
-    while bytes.len() - at >= rate {
-        absorb(lanes, &bytes[at..at + rate]);
-        at += rate;
+    let (blocks, rest) = bytes.as_chunks::<RATE>();
+    for block in blocks {
+        absorb(lanes, block);
     }
-    at
+    rest
 }
 
-// Takes the bytes, where the first `filled` of the block wait; answers how many wait then.
-pub(crate) fn take_in(lanes: &mut [u64; 25], block: &mut [u8], filled: usize, bytes: &[u8]) -> usize
-    requires held { filled < length block.old }
-    requires fits { length block.old ≤ 200 }
-    ensures held { result < length block.old }
-    ensures same { (x : List ℕ) → sponge (length block.old) lanes.new (take result block.new ++ x) ≡ sponge (length block.old) lanes.old (take filled block.old ++ (bytes.now ++ x)) }
-{
-    let room = block.len() - filled;
-    if bytes.len() < room {
-        put(block, filled, bytes);
-        return filled + bytes.len();
+impl<const RATE: usize> Sponge<RATE> {
+    // Takes the bytes, behind those that wait.
+    pub(crate) fn take_in(&mut self, bytes: &[u8])
+        ensures { (x : List ℕ) → absorbing RATE self.new x ≡ absorbing RATE self.old (bytes.now ++ x) }
+    {
+        let room = RATE - self.filled;
+        if bytes.len() < room {
+            put(&mut self.block, self.filled, bytes);
+            self.filled += bytes.len();
+            return;
+        }
+        let (head, more) = bytes.split_at(room);
+        put(&mut self.block, self.filled, head);
+        absorb(&mut self.lanes, &self.block);
+        let rest = absorb_blocks::<RATE>(&mut self.lanes, more);
+        put(&mut self.block, 0, rest);
+        self.filled = rest.len();
     }
-    put(block, filled, &bytes[0..room]);
-    absorb(lanes, block);
-    let rest = &bytes[room..bytes.len()];
-    let whole = absorb_blocks(lanes, block.len(), rest);
-    put(block, 0, &rest[whole..rest.len()]);
-    rest.len() - whole
-}
 
-// Pads what waits in the block, and absorbs it.
-pub(crate) fn close(lanes: &mut [u64; 25], block: &mut [u8], filled: usize)
-    requires held { filled < length block.old }
-    requires fits { length block.old ≤ 200 }
-    ensures { lanes.new ≡ sponge (length block.old) lanes.old (take filled block.old) }
-{
-    block[filled] = 0x1f;
-    for k in filled + 1..block.len() {
-        block[k] = 0;
+    // Pads what waits, and absorbs it: from now on the stream is given.
+    pub(crate) fn close(&mut self)
+        ensures lanes { self.new.lanes ≡ absorbing RATE self.old [] }
+        ensures unused { self.new.used ≡ 0 }
+    {
+        let block = &mut self.block[..];
+        block[self.filled] = 0x1f;
+        block[self.filled + 1..].fill(0);
+        block[RATE - 1] ^= 0x80;
+        absorb(&mut self.lanes, &self.block);
+        self.used = 0;
     }
-    let last = block.len() - 1;
-    block[last] ^= 0x80;
-    absorb(lanes, block);
 }
