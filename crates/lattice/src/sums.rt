@@ -6,7 +6,7 @@ ghost use Rattle.protocol.specs.Parameters.{modulus};
 ghost use Rattle.protocol.specs.Residues.{modular};
 ghost use Rattle.lattice.specs.Lines.{at};
 ghost use Rattle.lattice.specs.Sums.{without};
-ghost use Rattle.lattice.specs.Sets.{number};
+ghost use Rattle.protocol.specs.Sets.{number};
 
 use protocol::set::Set;
 

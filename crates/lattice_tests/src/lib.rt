@@ -6,7 +6,7 @@ mod tests {
     use lattice::kept::gather_kept;
     use lattice::product::multiply_row;
     use lattice::rows::{matrix_row, multiply};
-    use lattice::set::Set;
+    use protocol::set::Set;
     use lattice::sums::Rows;
     use lattice::values::{sample, sample_all};
 

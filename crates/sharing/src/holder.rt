@@ -17,7 +17,7 @@ use crate::memory::{Scratch, cut_scratch};
 use crate::parties::{take_commitments, take_parties};
 use crate::rows::sum_shares;
 use digest::maker::DigestMaker;
-use lattice::set::Set;
+use protocol::set::Set;
 use lattice::sums::subtract_from;
 use seedtree::leaves::Leaves;
 use seedtree::repetition::Repetition;
@@ -53,7 +53,7 @@ pub fn share_out<D: DigestMaker>(
     };
     grow(maker, of, master, nodes);
     sum_shares(maker, Leaves { of, nodes }, None, shares, offsets);
-    subtract_from(Set::of(header), values, offsets);
+    subtract_from(header.set, values, offsets);
 }
 
 /// Feeds a repetition of text 6: all parties' commitments, then the offsets.

@@ -8,7 +8,7 @@ ghost use Rattle.shares.specs.Drawing.{share};
 ghost use Rattle.sharing.specs.Rows.{leaf_in, summed, held};
 
 use digest::maker::DigestMaker;
-use lattice::set::Set;
+use protocol::set::Set;
 use lattice::sums::add_row;
 use seedtree::leaves::Leaves;
 use shares::drawing::draw_shares;
@@ -36,7 +36,7 @@ pub fn sum_shares<D: DigestMaker>(
     ensures { let r = leaves.entry.of in let p = parameters r.header in sum.new ≡ map (summed D.DigestMaker.function p (short_bytes r.salt.now) r.number leaves.entry.nodes.now (unwrap_or left_out (parties p))) (range_with_len 0 p.m) }
 {
     let header = leaves.of.header;
-    let set = Set::of(header);
+    let set = header.set;
     sum.fill(0);
     for j in 0..header.parties() {
         if left_out != Some(j) {
@@ -61,6 +61,6 @@ pub fn hold_shares<D: DigestMaker>(
 {
     draw_row(maker, leaves, j, shares);
     if j == 0 {
-        add_row(Set::of(leaves.of.header), shares, offsets);
+        add_row(leaves.of.header.set, shares, offsets);
     }
 }

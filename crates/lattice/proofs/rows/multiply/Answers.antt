@@ -6,7 +6,7 @@ use Rattle.protocol.specs.Parameters.{modulus}
 use Rattle.protocol.specs.Residues.{matrix, product}
 use Rattle.keccak.specs.Sponge.{shake128}
 use Rattle.lattice.specs.Lines.{at, row_entry}
-use Rattle.lattice.specs.Sets.{number}
+use Rattle.protocol.specs.Sets.{number}
 use Rattle.lattice.proofs.Dots.{row_is, lines_more}
 use Rattle.lattice.proofs.rows.multiply.Goals as goal
 

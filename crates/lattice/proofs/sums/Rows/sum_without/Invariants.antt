@@ -2,7 +2,7 @@ use Rattle.std.proofs.Common.{◌≡◌, ℕ, ◌+◌, ◌*◌, ◌<◌}
 use Rattle.protocol.specs.Parameters.{modulus}
 use Rattle.protocol.specs.Residues.{modular}
 use Rattle.lattice.specs.Lines.{at}
-use Rattle.lattice.specs.Sets.{number}
+use Rattle.protocol.specs.Sets.{number}
 use Rattle.lattice.specs.Sums.{without}
 use Rattle.lattice.proofs.sums.Rows.sum_without.Given as goal
 
