@@ -9,15 +9,8 @@ use Rattle.std.proofs.lemmas.Simd.{length-chunk, chunk-drop}
 use Rattle.std.specs.Int.{w64, from_le_bytes}
 use Rattle.std.specs.Simd.{first_chunks}
 use Rattle.std.proofs.lemmas.List.{get_or-take, get_or-drop, drop-drop, take_at, drop_at, take_all, take_more_set, drop_all, append-nil, length-take-le, length-drop}
+use Rattle.digest.proofs.Chunks.{chunk_at}
 use Rattle.keccak.specs.Sponge.{lane_of, absorbed, absorbs, suffixed, padded, sponge}
-
--- chunk i of a list
-chunk_at : (r n : ℕ) (xs : List ℕ) (i : ℕ) (d : List ℕ) → i < n → get_or (first_chunks r n xs) i d ≡ take r (drop (i * r) xs)
-chunk_at r zero xs i d h = absurd (omega arith)
-chunk_at r (suc n) xs zero d h = let e : 0 ≡ 0 * r = omega arith in ap (λ m. take r (drop m xs)) e
-chunk_at r (suc n) xs (suc i) d h =
-    let e : r + i * r ≡ suc i * r = omega arith in
-    chunk_at r n (drop r xs) i d (omega arith) ∙ ap (take r) (drop-drop (i * r) r xs ∙ ap (λ m. drop m xs) e)
 
 -- byte k of word i of a block
 word_byte : (n : ℕ) (b : List ℕ) (i k : ℕ) → i < n → k < 8 → get_or (get_or (first_chunks 8 n b) i []) k 0 ≡ get_or b (8 * i + k) 0

@@ -5,18 +5,17 @@ use Rattle.std.specs.Simd.{first_chunks}
 use Rattle.std.proofs.lemmas.List.FromFn.{fill_by_all, get_or-map-range_with_len, length-map-range_with_len}
 use Rattle.protocol.specs.Residues.{residue_in}
 use Rattle.protocol.specs.Streams.{first_bytes, stream_word}
-use Rattle.digest.proofs.Chunks.{chunk_at}
 use Rattle.lattice.specs.Lines.{at}
-use Rattle.lattice.proofs.Chunks.{chunk_at}
+use Rattle.lattice.proofs.Chunks.{chunk_entry}
 
 -- the two bytes of pair t
 pub word_of_pair : (bs : List ℕ) (pairs : List (List ℕ)) (k t : ℕ) → pairs ≡ first_chunks 2 k bs → t < k →
     at (get_or pairs t []) 0 + at (get_or pairs t []) 1 * 256 ≡ stream_word (at bs) t
 word_of_pair bs pairs k t e h =
     let low : at (get_or pairs t []) 0 ≡ at bs (2 * t) =
-    ap (λ ps. at (get_or ps t []) 0) e ∙ chunk_at 2 bs k t 0 h (omega arith) ∙ ap (at bs) (omega arith) in
+    ap (λ ps. at (get_or ps t []) 0) e ∙ chunk_entry 2 bs k t 0 h (omega arith) ∙ ap (at bs) (omega arith) in
     let high : at (get_or pairs t []) 1 ≡ at bs (2 * t + 1) =
-    ap (λ ps. at (get_or ps t []) 1) e ∙ chunk_at 2 bs k t 1 h (omega arith) ∙ ap (at bs) (omega arith) in
+    ap (λ ps. at (get_or ps t []) 1) e ∙ chunk_entry 2 bs k t 1 h (omega arith) ∙ ap (at bs) (omega arith) in
     omega (arith, low, high)
 
 front_at : (s : ℕ → ℕ) (n k : ℕ) → k < n → at (first_bytes s n) k ≡ s k

@@ -4,16 +4,6 @@ use Rattle.std.specs.List.{concat}
 use Rattle.std.specs.Simd.{first_chunks}
 use Rattle.std.proofs.lemmas.List.{take-append-drop, take-take, drop-take, drop-drop}
 
-pub get_or-first_chunks : {X : Type 0} (n k : ℕ) (xs : List X) (i : ℕ) (d : List X) → i < k
-    → get_or (first_chunks n k xs) i d ≡ take n (drop (i * n) xs)
-get_or-first_chunks n zero xs i d below = absurd (not-suc-le-zero below)
-get_or-first_chunks n (suc k) xs zero d below =
-    let e : 0 ≡ 0 * n = omega arith in
-    ap (λ m. take n (drop m xs)) e
-get_or-first_chunks n (suc k) xs (suc i) d below =
-    let e : n + i * n ≡ suc i * n = grind arith in
-    get_or-first_chunks n k (drop n xs) i d (omega arith) ∙ ap (take n) (drop-drop (i * n) n xs ∙ ap (λ m. drop m xs) e)
-
 concat-first_chunks : (n k : ℕ) (xs : List ℕ) → concat (first_chunks n k xs) ≡ take (k * n) xs
 concat-first_chunks n zero xs =
     let e : 0 ≡ 0 * n = omega arith in

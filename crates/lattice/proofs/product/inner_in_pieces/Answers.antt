@@ -3,7 +3,7 @@ use Rattle.std.proofs.lemmas.List.{length_push, get_or-drop}
 use Rattle.std.proofs.lemmas.Slice.Zip.{zip_turn, zip_end}
 use Rattle.protocol.specs.Residues.{dot}
 use Rattle.lattice.specs.Lines.{at}
-use Rattle.lattice.proofs.Chunks.{chunk_at}
+use Rattle.lattice.proofs.Chunks.{chunk_entry}
 use Rattle.lattice.proofs.Dots.{dot_joined}
 use Rattle.lattice.proofs.product.inner_in_pieces.Goals as goal
 
@@ -17,8 +17,8 @@ loop-x-preserved c =
     let long : length c.in-Some.x.now ≡ 128 = search rules in
     dot_joined (k * 128) 128 (at a) (at b) (at c.in-Some.x.now) (at c.in-Some.y.now) c.loop-x.sum c.inner-sum.result c.loop-x.invariant
     (c.inner-sum.ensures ∙ ap (λ n. dot n (at c.in-Some.x.now) (at c.in-Some.y.now) % 65536) long)
-    (λ j h. ap (λ xs. at xs j) (t.2 []) ∙ ap (λ ps. at (get_or ps k []) j) c.as_chunks.ensures.front ∙ chunk_at 128 a (length a / 128) k j (omega arith) h)
-    (λ j h. ap (λ xs. at xs j) (t.3 []) ∙ ap (λ ps. at (get_or ps k []) j) c.as_chunks-2.ensures.front ∙ chunk_at 128 b (length b / 128) k j (omega arith) h)
+    (λ j h. ap (λ xs. at xs j) (t.2 []) ∙ ap (λ ps. at (get_or ps k []) j) c.as_chunks.ensures.front ∙ chunk_entry 128 a (length a / 128) k j (omega arith) h)
+    (λ j h. ap (λ xs. at xs j) (t.3 []) ∙ ap (λ ps. at (get_or ps k []) j) c.as_chunks-2.ensures.front ∙ chunk_entry 128 b (length b / 128) k j (omega arith) h)
     ∙ ap (λ n. dot n (at a) (at b) % 65536) (omega (arith, length_push c.loop-x.yielded (c.in-Some.x, c.in-Some.y)))
 
 pub returns : goal.returns

@@ -41,7 +41,7 @@ returns-then-party-ne0 g c =
       key = c.read_words-2.ensures ∙ (λ i. map (stream_word (at (c.part.ensures.holds i))) (range_with_len 0 (c.requires.key i)));
       sums =
           added_row _ p.set p.m c.sum_shares.new.sum offsets _ (summed F p salt e nodes party) (at offsets) (others_held F p salt e nodes offsets party)
-          c.of.ensures c.sum_shares.ensures c.add_row.ensures (λ k q. refl)
+          refl c.sum_shares.ensures c.add_row.ensures (λ k q. refl)
           (λ k q. sym (others_with (residues_lawful p.set) (λ j. share F p salt e j (leaf_in p nodes j) k) (at offsets k) (parties p) party some c.if-party-ne0.true))
           ∙ (λ i. map (others_held F p salt e nodes offsets (c.party-party.ensures i)) (range_with_len 0 p.m));
     }

@@ -1,4 +1,4 @@
-use Rattle.std.proofs.Common.{◌≡◌, length, ap, ◌∙◌, arith}
+use Rattle.std.proofs.Common.{refl, ◌≡◌, length, ap, ◌∙◌, arith}
 use Rattle.protocol.specs.Of.{parameters}
 use Rattle.digest.specs.Short.{short_bytes}
 use Rattle.sharing.proofs.Holding.{length-values, offsets_are}
@@ -15,5 +15,5 @@ returns g c = record {
   tree = c.grow.ensures;
   offsets =
       offsets_are g.D.DigestMaker.function (parameters c.args.holder.header) (short_bytes c.args.holder.salt.now) c.args.holder.master.now c.args.number c.grow.new.nodes c.grow.ensures
-      _ c.args.holder.values.now c.sum_shares.new.sum _ c.of.ensures c.args.holder.drawn c.sum_shares.ensures c.subtract_from.ensures;
+      _ c.args.holder.values.now c.sum_shares.new.sum _ refl c.args.holder.drawn c.sum_shares.ensures c.subtract_from.ensures;
 }

@@ -1,4 +1,4 @@
-use Rattle.std.proofs.Common.{ℕ, ◌+◌, length, unwrap_or, sym, ◌∙◌, arith}
+use Rattle.std.proofs.Common.{refl, ℕ, ◌+◌, length, unwrap_or, sym, ◌∙◌, arith}
 use Rattle.std.proofs.lemmas.List.FromFn.{fill_by_all}
 use Rattle.std.proofs.lemmas.List.{get_or-replicate, length-replicate}
 use Rattle.protocol.specs.Group.{others}
@@ -34,7 +34,7 @@ loop-j-preserved g c =
           let off = left_not c.args.left_out j (parties p) (omega arith) (sym c.ne.ensures ∙ w.if-ne.true) in
           w.sum-is
           ∙ added_row _ p.set p.m c.loop-j.sum w.draw_row.new.shares _ (λ k. others q j out (f k)) (λ k. f k j) (λ k. others q (j + 1) out (f k))
-          c.of-set.ensures c.loop-j.invariant w.add_row.ensures (λ k r. row_at (λ k. f k j) p.m k _ w.draw_row.ensures r) (λ k r. sym (others_more q j out (f k) off))
+          refl c.loop-j.invariant w.add_row.ensures (λ k r. row_at (λ k. f k j) p.m k _ w.draw_row.ensures r) (λ k r. sym (others_more q j out (f k) off))
       | else-ne w ↦
           let is = left_is c.args.left_out j (parties p) (sym c.ne.ensures ∙ w.if-ne.false) in
           w.sum-is ∙ c.loop-j.invariant ∙ same_row (λ k. others q j out (f k)) (λ k. others q (j + 1) out (f k)) p.m (λ k r. sym (others_skip q j out (f k) is))
