@@ -1,5 +1,5 @@
 //! The fronts of the texts 6 and 7: what stands before the first repetition, but for B.
-ghost use Rattle.std.specs.Prelude.{ℕ, ◌<◌, ◌≤◌, ◌∷◌, ◌++◌, length, slice_index};
+ghost use Rattle.std.specs.Prelude.{◌≡◌, ℕ, ◌<◌, ◌≤◌, ◌∷◌, ◌++◌, length, slice_index};
 ghost use Rattle.digest.specs.Feeding.{Ready};
 ghost use Rattle.digest.specs.Making.{Holding, Took};
 ghost use Rattle.digest.specs.Short.{short_bytes};
@@ -44,7 +44,8 @@ pub fn begin_text7<D: DigestMaker>(
 )
     requires plain { (k : ℕ) → slice_index flags.now k < 2 }
     requires few { length flags.now ≤ 32768 }
-    ensures { Holding D.DigestMaker.function (7 ∷ (short_bytes salt.now ++ (short_bytes d1.now ++ (flags.now ++ seed_a.now)))) (D.DigestMaker.means long.new) }
+    ensures holds { Holding D.DigestMaker.function (7 ∷ (short_bytes salt.now ++ (short_bytes d1.now ++ (flags.now ++ seed_a.now)))) (D.DigestMaker.means long.new) }
+    ensures seed { length seed_a.now ≡ 16 }
 {
     take_text(long, 7, salt.as_slice(), d1.as_slice(), &[]);
     take_flags(long, flags);

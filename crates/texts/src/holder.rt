@@ -86,12 +86,7 @@ fn take_key<D: DigestMaker>(long: &mut D, asked: Asked<'_, D>, scratch: &mut [u1
 }
 
 /// Feeds all repetitions of text 7.
-fn feed_all7<D: DigestMaker>(
-    short: &mut D,
-    long: &mut D,
-    asked: Asked<'_, D>,
-    scratch: &mut [u16],
-)
+fn feed_all7<D: DigestMaker>(short: &mut D, long: &mut D, asked: Asked<'_, D>, scratch: &mut [u16])
     requires scratch { scratch_words (parameters asked.holder.header) ≤ length scratch.old }
     requires ready { Ready (64 * (256 * most_shown)) (D.DigestMaker.means long.old) }
     ensures { let h = asked.entry.holder in Took (parts (parameters h.header).tau (holder_shares D.DigestMaker.function (parameters h.header) (short_bytes h.salt.now) h.master.now asked.entry.seed_a.now asked.entry.flags.now)) (D.DigestMaker.means long.old) (D.DigestMaker.means long.new) }
@@ -113,9 +108,13 @@ pub fn digest_text7<D: DigestMaker>(
     requires scratch { scratch_words (parameters asked.holder.header) ≤ length scratch.old }
     ensures { let h = asked.entry.holder in let p = parameters h.header in short_bytes result ≡ drawn D.DigestMaker.function (honest7 (scheme D.DigestMaker.function p) (secret_of D.DigestMaker.function p (short_bytes h.salt.now) h.master.now [] (short_bytes d1.now) asked.entry.seed_a.now asked.entry.flags.now)) (width p) }
 {
-    let header = asked.holder.header;
-    begin_text7(long, asked.holder.salt, d1, asked.flags, asked.seed_a);
+    let Asked {
+        holder,
+        seed_a,
+        flags,
+    } = asked;
+    begin_text7(long, holder.salt, d1, flags, seed_a);
     take_key(long, asked, scratch);
     feed_all7(short, long, asked, scratch);
-    draw_short(long, header.width())
+    draw_short(long, holder.header.width())
 }

@@ -42,11 +42,11 @@ returns g c =
     let F = g.D.DigestMaker.function in
     let h = c.in_ok-header.header in
     let read : checks_header c.args.header.now ≡ Ok (parameters h) = sym c.in_ok-header.ensures.says in
-    let salt : short_bytes c.unwrap-salt.result ≡ c.args.salt.now = search rules in
+    let salt : short_bytes c.from-salt.result ≡ c.args.salt.now = search rules in
     record {
       says =
           commits_ok F c.args.header.now c.args.salt.now c.args.master.now c.args.attributes.now (length c.args.words.now) (parameters h)
-          (short_bytes c.unwrap-salt.result) (short_bytes c.digest_commitments-d1.result) (search rules) read c.in_ok-header.ensures.back c.in_ok-test_lent.ensures salt c.digest_commitments-d1.ensures.digest;
+          (short_bytes c.from-salt.result) (short_bytes c.digest_commitments-d1.result) (search rules) read c.in_ok-header.ensures.back c.in_ok-test_lent.ensures salt c.digest_commitments-d1.ensures.digest;
       short = c.digest_commitments-d1.ensures.short;
       long = c.digest_commitments-d1.ensures.long;
     }

@@ -38,8 +38,8 @@ unwrap-requires g c =
     c.as_slice.ensures.few c.as_slice-2.ensures.few c.requires.few (omega arith) c.as_slice.ensures.bytes c.as_slice-2.ensures.bytes c.take_text.ensures c.take_flags.ensures
     c.take.ensures.answer c.take.ensures.effect).0
 
-pub returns : goal.returns
-returns g c =
+pub returns-clause-holds : goal.returns-clause-holds
+returns-clause-holds g c =
     (seed_taken c.take.result (g.D.DigestMaker.means c.take_flags.new.maker) (g.D.DigestMaker.means c.take.new.self)
     (short_bytes c.args.salt.now) c.as_slice.result.now (short_bytes c.args.d1.now) c.as_slice-2.result.now c.args.flags.now c.args.seed_a.now
     c.as_slice.ensures.few c.as_slice-2.ensures.few c.requires.few (omega arith) c.as_slice.ensures.bytes c.as_slice-2.ensures.bytes c.take_text.ensures c.take_flags.ensures

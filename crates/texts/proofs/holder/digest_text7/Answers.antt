@@ -1,4 +1,4 @@
-use Rattle.std.proofs.Common.{ℕ, ◌+◌, ◌*◌, List, [], ◌∷◌, ◌++◌, map, length, ap, ◌∙◌, arith, rules}
+use Rattle.std.proofs.Common.{ℕ, ◌+◌, ◌*◌, List, [], ◌∷◌, ◌++◌, map, ap, ◌∙◌, arith, rules}
 use Rattle.std.specs.List.{range_with_len, flat_map}
 use Rattle.std.proofs.lemmas.List.FromFn.{length-map-range_with_len}
 use Rattle.protocol.specs.Bytes.{le16}
@@ -12,7 +12,6 @@ use Rattle.lattice.specs.Lines.{at}
 use Rattle.shares.specs.Shown.{most_shown, product_of}
 use Rattle.shares.proofs.Rows.{length-coded}
 use Rattle.sharing.specs.Parts.{holder_shares}
-use Rattle.sharing.proofs.Holding.{length-values}
 use Rattle.texts.proofs.Keys.{key_is}
 use Rattle.texts.proofs.Wholes.{ready7, whole7}
 use Rattle.texts.proofs.holder.digest_text7.Goals as goal
@@ -20,7 +19,7 @@ use Rattle.texts.proofs.holder.digest_text7.Goals as goal
 pub take_key-requires : goal.take_key-requires
 take_key-requires g c =
     let p = parameters c.args.asked.holder.header in
-    let ready = ready7 c.args.asked.holder.salt.now c.args.d1.now c.args.asked.flags.now c.args.asked.seed_a.now c.begin_text7.ensures (omega arith) (omega arith) in
+    let ready = ready7 c.args.asked.holder.salt.now c.args.d1.now c.args.asked.flags.now c.args.asked.seed_a.now c.begin_text7.ensures.holds (omega arith) c.begin_text7.ensures.seed in
     record {
       scratch = c.requires.scratch;
       ready = (ready.0, omega (arith, ready.1));
@@ -34,7 +33,7 @@ feed_all7-requires g c =
     record {
       scratch = search rules;
       ready = ready_after _ _ (flat_map le16 b) (32768 + 64 * (256 * most_shown)) (64 * (256 * most_shown))
-          (ready7 c.args.asked.holder.salt.now c.args.d1.now c.args.asked.flags.now c.args.asked.seed_a.now c.begin_text7.ensures (omega arith) (omega arith))
+          (ready7 c.args.asked.holder.salt.now c.args.d1.now c.args.asked.flags.now c.args.asked.seed_a.now c.begin_text7.ensures.holds (omega arith) c.begin_text7.ensures.seed)
           (omega (arith, length-coded b, length-map-range_with_len f 0 (p.n * p.c))) c.take_key.ensures;
     }
 
@@ -52,6 +51,6 @@ returns g c =
     let b : List ℕ = map (product_of p seed_a flags (at values)) (range_with_len 0 (p.n * p.c)) in
     let rest : List ℕ = parts p.tau (holder_shares F p (short_bytes salt) master seed_a flags) in
     c.draw_short.ensures
-    ∙ (λ i. first_bytes (whole7 salt d1 flags seed_a c.begin_text7.ensures _ _ (flat_map le16 b) rest c.take_key.ensures c.feed_all7.ensures i) (c.width.ensures i))
+    ∙ (λ i. first_bytes (whole7 salt d1 flags seed_a c.begin_text7.ensures.holds _ _ (flat_map le16 b) rest c.take_key.ensures c.feed_all7.ensures i) (c.width.ensures i))
     ∙ ap (λ k. first_bytes (F (7 ∷ (short_bytes salt ++ (short_bytes d1 ++ (flags ++ (seed_a ++ (flat_map le16 k ++ rest))))))) 32)
     (key_is F p (short_bytes salt) master [] (short_bytes d1) seed_a flags values c.args.asked.holder.drawn c.args.asked.long c.args.asked.chosen)
