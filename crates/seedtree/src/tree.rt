@@ -26,11 +26,7 @@ fn draw_children<D: DigestMaker>(
 ) -> [u8; 64]
     ensures { let r = repetition.entry in result ≡ drawn D.DigestMaker.function (text3 (short_bytes r.salt.now) r.number node seed.now) 64 }
 {
-    let Repetition {
-        header: _,
-        salt,
-        number,
-    } = repetition;
+    let Repetition { salt, number, .. } = repetition;
     let [low, high] = node.to_le_bytes();
     take_text(maker, 3, salt.as_slice(), &[number, low, high], seed);
     let mut both = [0; 64];
@@ -58,11 +54,7 @@ fn draw_root<D: DigestMaker>(
 ) -> [u8; 32]
     ensures { let r = repetition.entry in result ≡ root_of D.DigestMaker.function (short_bytes r.salt.now) master.now r.number }
 {
-    let Repetition {
-        header: _,
-        salt,
-        number,
-    } = repetition;
+    let Repetition { salt, number, .. } = repetition;
     take_text(maker, 2, salt.as_slice(), &[number], master);
     let mut root = [0; 32];
     maker.draw(&mut root).unwrap();

@@ -46,15 +46,7 @@ pub fn feed_text6<D: DigestMaker>(
     ensures { let x = checked.entry in Took (record_commitments D.DigestMaker.function (parameters x.view.header) x.view.bytes.now x.hidden.now x.number) (D.DigestMaker.means long.old) (D.DigestMaker.means long.new) }
 {
     let header = checked.view.header;
-    let Scratch {
-        shares: _,
-        offsets: _,
-        sums: _,
-        key: _,
-        product: _,
-        bench: _,
-        nodes,
-    } = cut_scratch(header, scratch);
+    let Scratch { nodes, .. } = cut_scratch(header, scratch);
     let block = checked.block();
     let of = Repetition {
         header,

@@ -44,7 +44,7 @@ pub fn share_out<D: DigestMaker>(
         salt,
         master,
         values,
-        of: _,
+        ..
     } = holder;
     let of = Repetition {
         header,
@@ -72,11 +72,8 @@ pub fn feed_text6<D: DigestMaker>(
     let Scratch {
         shares,
         offsets,
-        sums: _,
-        key: _,
-        product: _,
-        bench: _,
         nodes,
+        ..
     } = cut_scratch(header, scratch);
     share_out(short, holder, number, shares, offsets, nodes);
     let of = Repetition {
@@ -109,11 +106,10 @@ pub fn feed_text7<'a, D: DigestMaker>(
     let Scratch {
         shares,
         offsets,
-        sums: _,
-        key: _,
         product,
         bench,
         nodes,
+        ..
     } = cut_scratch(header, scratch);
     share_out(short, holder, number, shares, offsets, nodes);
     let of = Repetition {

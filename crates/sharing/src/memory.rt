@@ -53,6 +53,7 @@ pub fn cut_work(header: Header, work: &mut [u16]) -> Work<'_>
 }
 
 /// Cuts what serves one repetition.
+// Each function is lent it uncut: of a lent Scratch each would have to say, before and after, that it is cut for the header at hand.
 pub fn cut_scratch(header: Header, scratch: &mut [u16]) -> Scratch<'_>
     requires { scratch_words (parameters header) ≤ length scratch.old }
     ensures shares { length result.shares.now ≡ (parameters header).m }

@@ -19,8 +19,8 @@ use seedtree::leaves::Leaves;
 use shares::kept::Kept;
 use shares::party::{commit, take_found, take_shown};
 
-// The maker of short texts and that of the long one stay two parameters: lent in one struct, each function would have to say of both that
-// it is the same maker still.
+// The makers of short texts and of the long one stay two parameters, and so do the rows that are worked in: lent in a struct, each
+// function would have to say that it holds the same makers still, and rows of this header's lengths.
 
 /// Party j's commitment, the hidden one's as it is given.
 fn commitment<D: DigestMaker>(
