@@ -28,7 +28,7 @@ word_lane n b i x h is =
     + byte 4 h (lit< tt) z * 2 ^ 32 + byte 5 h (lit< tt) z * 2 ^ 40 + byte 6 h (lit< tt) z * 2 ^ 48 + byte 7 h (lit< tt) z * 2 ^ 56)
 
 -- a whole block first
-pub whole : (r : ℕ) (s b x : List ℕ) → 0 < r → length b ≡ r → sponge r s (b ++ x) ≡ sponge r (absorbed r s b) x
+whole : (r : ℕ) (s b x : List ℕ) → 0 < r → length b ≡ r → sponge r s (b ++ x) ≡ sponge r (absorbed r s b) x
 unfolding sponge absorbs
 whole r s b x some h =
     let e : length (b ++ x) / r ≡ suc (length x / r) =
@@ -50,15 +50,9 @@ block_absorbed r s t bytes x b i some h is taken =
     ∙ ap (sponge r s) (sym (append_assoc b rest x) ∙ ap (λ z. z ++ x) (ap (λ z. z ++ rest) here ∙ sym (chunk-drop (i * r) r bytes)))
 
 -- the bytes that wait, after more were put behind them
-pub waiting : (block bytes : List ℕ) (at : ℕ) → at ≤ length block → take (at + length bytes) (paste block at bytes (length bytes)) ≡ take at block ++ bytes
+waiting : (block bytes : List ℕ) (at : ℕ) → at ≤ length block → take (at + length bytes) (paste block at bytes (length bytes)) ≡ take at block ++ bytes
 waiting block bytes at le =
     take-paste block at bytes (length bytes) le (omega arith) ∙ ap (λ z. take at block ++ z) (take_all (length bytes) bytes (omega arith))
-
--- few bytes only wait
-pub few_taken : (r : ℕ) (s block bytes x : List ℕ) (filled : ℕ) → filled ≤ length block
-    → sponge r s (take (filled + length bytes) (paste block filled bytes (length bytes)) ++ x) ≡ sponge r s (take filled block ++ (bytes ++ x))
-few_taken r s block bytes x filled le =
-    ap (λ z. sponge r s (z ++ x)) (waiting block bytes filled le) ∙ ap (sponge r s) (append_assoc (take filled block) bytes x)
 
 -- the bytes that fill the block are absorbed with it, then whole blocks, and the rest waits
 pub many_taken : (r : ℕ) (s t u block head rest last full final bytes x : List ℕ) (filled : ℕ)
@@ -92,7 +86,7 @@ filled_up r block zeros n k h long is e =
     ∙ append_assoc (take n block) (31 ∷ []) (replicate (r - 1 - length (take n block)) 0)
 
 -- fewer bytes than a block are padded and absorbed
-pub last_absorbed : (r : ℕ) (s m : List ℕ) → length m < r → absorbed r s (padded r m) ≡ sponge r s m
+last_absorbed : (r : ℕ) (s m : List ℕ) → length m < r → absorbed r s (padded r m) ≡ sponge r s m
 unfolding sponge absorbs
 last_absorbed r s m h = let e : length m / r ≡ 0 = div-eq_of_lt h in ap (λ k. absorbs r s k m) (sym e)
 

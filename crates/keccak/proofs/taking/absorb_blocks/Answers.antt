@@ -1,5 +1,4 @@
-use Rattle.std.proofs.Common.{◌≡◌, ◌*◌, ◌++◌, ◌/◌, length, get_or, drop, sym, ap, ◌∙◌, arith}
-use Rattle.keccak.specs.Sponge.{sponge}
+use Rattle.std.proofs.Common.{get_or, ap, ◌∙◌, arith}
 use Rattle.keccak.proofs.Absorption.{block_absorbed}
 use Rattle.keccak.proofs.taking.absorb_blocks.Goals as goal
 
@@ -8,12 +7,3 @@ loop-block-preserved g c = λ x.
     block_absorbed g.row.RATE c.loop-block.lanes c.absorb.new.lanes c.args.bytes.now x c.block-item.result c.loop-block.block-index c.requires.some (omega arith)
     (c.block-item.is ∙ ap (λ bs. get_or bs c.loop-block.block-index c.block-item.result) c.as_chunks.ensures.front) c.absorb.ensures
     ∙ c.loop-block.invariant x
-
-pub returns : goal.returns
-returns g c =
-    let r = g.row.RATE in
-    let n : c.loop-block.block-index ≡ length c.args.bytes.now / r = omega arith in
-    record {
-      short = omega (arith);
-      same = λ x. ap (λ rest. sponge r c.loop-block.lanes (rest ++ x)) (c.as_chunks.ensures.back ∙ ap (λ k. drop (k * r) c.args.bytes.now) (sym n)) ∙ c.loop-block.invariant x;
-    }

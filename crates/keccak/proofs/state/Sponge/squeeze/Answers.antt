@@ -27,11 +27,3 @@ loop-done-preserved g c =
           let b : done + (n + i) ≡ done + n + i = omega arith in
           ap₂ (stream r) c.unload.ensures.lanes a ∙ ahead (n + i) ∙ ap (giving r s) b),
     )
-
-pub returns : goal.returns
-returns g c =
-    let e : c.loop-done.done ≡ length c.args.out.now = omega arith in
-    record {
-      bytes = λ k h. c.loop-done.invariant.1 k (omega arith);
-      rest = λ i. c.loop-done.invariant.2 i ∙ ap (λ n. giving g.row.RATE c.args.self.now (n + i)) e;
-    }

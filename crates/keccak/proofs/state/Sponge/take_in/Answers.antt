@@ -1,14 +1,7 @@
-use Rattle.std.proofs.Common.{◌≡◌, ◌+◌, ◌-◌, ◌++◌, length, take, sym, ap, ◌∙◌, ap₂, arith}
+use Rattle.std.proofs.Common.{◌≡◌, ◌-◌, ◌++◌, sym, ◌∙◌, ap₂, arith}
 use Rattle.std.proofs.lemmas.List.{take-append-drop}
-use Rattle.keccak.specs.Sponge.{sponge}
-use Rattle.keccak.proofs.Absorption.{few_taken, many_taken}
+use Rattle.keccak.proofs.Absorption.{many_taken}
 use Rattle.keccak.proofs.state.Sponge.take_in.Goals as goal
-
-pub returns-then-bytes-room : goal.returns-then-bytes-room
-returns-then-bytes-room g c = λ x.
-    let s = c.args.self.now in
-    ap (λ b. sponge g.row.RATE s.lanes (take (s.filled + length c.args.bytes.now) b ++ x)) c.put.ensures
-    ∙ few_taken g.row.RATE s.lanes s.block c.args.bytes.now x s.filled (omega arith)
 
 pub returns : goal.returns
 returns g c = λ x.

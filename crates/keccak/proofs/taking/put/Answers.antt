@@ -1,6 +1,0 @@
-use Rattle.std.proofs.Common.{refl, arith}
-use Rattle.std.proofs.lemmas.Slice.{put_mid-paste}
-use Rattle.keccak.proofs.taking.put.Goals as goal
-
-pub returns : goal.returns
-returns c = put_mid-paste c.args.at _ c.args.out.now c.copy_from_slice.new.self c.args.bytes.now _ c.copy_from_slice.ensures.after (omega arith) refl
