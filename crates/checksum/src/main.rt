@@ -61,6 +61,7 @@ fn take_input(
     let mut piece = vec![in rt.alloc(); 0u8; PIECE]?;
     let mut input = rt.stdin();
     let mut taken = Ok(());
+    // input ends when a read gives no bytes; the count is there since each loop is proved to end
     for _ in 0..u64::MAX {
         let n = input.read(piece.as_mut_slice())?;
         taken = take_both(shake, sha, &piece.as_slice()[0..n]);
