@@ -33,6 +33,7 @@ fn flag_byte(flags: &[u16], b: usize) -> u8
 }
 
 /// Packs flags that are 0 or 1 into bytes; bits past the last flag are 0.
+// a `requires` and no type of such flags: callers lend plain slices, and a struct round one would ask more of them
 pub fn pack(flags: &[u16], out: &mut [u8])
     requires plain { Plain flags.now }
     requires room { length out.old ≤ 4096 }
