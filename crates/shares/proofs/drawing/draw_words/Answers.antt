@@ -5,11 +5,8 @@ use Rattle.std.proofs.lemmas.List.{take_all}
 use Rattle.protocol.specs.Streams.{stream_word}
 use Rattle.digest.specs.Making.{Making}
 use Rattle.shares.specs.Drawing.{Advanced}
-use Rattle.shares.proofs.Numbers.{advanced_none, advanced_both, word_further, part_long, filled_more}
+use Rattle.shares.proofs.Numbers.{advanced_both, word_further, part_long, filled_more}
 use Rattle.shares.proofs.drawing.draw_words.Goals as goal
-
-pub loop-from-init : goal.loop-from-init
-loop-from-init g c = (omega arith, refl, advanced_none _)
 
 -- n numbers more, which the maker gave that was as m' then
 filled : (m m' : Making) (from n : ℕ) (words new : List ℕ) → from + n ≤ length words → take from words ≡ map (stream_word (m.rule [])) (range_with_len 0 from) →
@@ -35,13 +32,6 @@ loop-from-preserved g c =
       advanced_both (2 * from) (2 * n) (2 * (from + 64)) m m' _ (omega arith) c.loop-from.invariant.2
           (subst (λ l. Advanced (2 * l) m' (g.D.DigestMaker.means c.draw_by.new.maker)) long c.draw_by.ensures.maker),
     )
-
-pub returns : goal.returns
-returns g c =
-    let s : ℕ → ℕ = (g.D.DigestMaker.means c.args.maker.now).rule [] in
-    sym (take_all c.loop-from.from c.loop-from.words (omega arith))
-    ∙ c.loop-from.invariant.1
-    ∙ ap (λ l. map (stream_word s) (range_with_len 0 l)) (let e : c.loop-from.from ≡ length c.args.words.now = omega arith in e)
 
 pub returns-2 : goal.returns-2
 returns-2 g c =

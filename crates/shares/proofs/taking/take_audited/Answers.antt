@@ -1,17 +1,14 @@
 use Rattle.std.proofs.Common.{◌≡◌, ◌+◌, ◌*◌, cond, eqb, [], ◌∷◌, ◌++◌, length, sym, subst, arith, rules}
 use Rattle.std.proofs.lemmas.List.{length-append}
-use Rattle.std.proofs.lemmas.Slice.Zip.{zip_turn, zip_end}
+use Rattle.std.proofs.lemmas.Slice.Zip.{zip_turn}
 use Rattle.protocol.specs.Bytes.{le16}
 use Rattle.protocol.specs.Sharing.{parts}
 use Rattle.digest.specs.Making.{Took}
-use Rattle.digest.proofs.Taking.{took_none, took_next, ready_after, length-parts_most}
+use Rattle.digest.proofs.Taking.{took_next, ready_after, length-parts_most}
 use Rattle.lattice.specs.Lines.{at}
 use Rattle.shares.specs.Shown.{audited_share}
 use Rattle.shares.proofs.Rows.{audited_short}
 use Rattle.shares.proofs.taking.take_audited.Goals as goal
-
-pub loop-flag-init : goal.loop-flag-init
-loop-flag-init g c = took_none _
 
 pub take_unless_kept-requires : goal.take_unless_kept-requires
 take_unless_kept-requires g c =
@@ -40,13 +37,3 @@ loop-flag-preserved g c =
     λ i. cond (eqb (turn.2 0 i) 1) [] (le16 (turn.3 0 i)) in
     subst (λ k. Took (parts k (audited_share flags (at shares))) m m') (sym longer)
     (took_next n (audited_share flags (at shares)) c.loop-flag.invariant (subst (λ t. Took t (g.D.DigestMaker.means c.loop-flag.maker) m') same c.take_unless_kept.ensures))
-
-pub returns : goal.returns
-returns g c =
-    let flags = c.args.flags.now in
-    let shares = c.args.shares.now in
-    let end =
-    zip_end flags shares c.loop-flag.yielded c.into_iter-flag-iterator.result c.loop-flag.flag-iterator c.next.new.self c.next.result (search rules) (search rules)
-    c.loop-flag.yielded_by c.in-None.is c.next.ensures.steps in
-    subst (λ k. Took (parts k (audited_share flags (at shares))) (g.D.DigestMaker.means c.args.maker.now) (g.D.DigestMaker.means c.loop-flag.maker))
-    (let all : length c.loop-flag.yielded ≡ length shares = omega (arith, end) in all) c.loop-flag.invariant

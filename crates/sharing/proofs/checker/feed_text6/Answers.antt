@@ -1,4 +1,4 @@
-use Rattle.std.proofs.Common.{◌≡◌, ◌*◌, ◌≤◌, subst, ◌∙◌, arith, rules}
+use Rattle.std.proofs.Common.{◌≡◌, ◌*◌, subst, ◌∙◌, arith, rules}
 use Rattle.protocol.specs.Of.{parameters}
 use Rattle.protocol.specs.Parameters.{parties}
 use Rattle.digest.specs.Making.{Took}
@@ -6,13 +6,8 @@ use Rattle.digest.specs.Short.{short_bytes}
 use Rattle.digest.proofs.Taking.{took_both}
 use Rattle.seedtree.specs.Grown.{Regrown}
 use Rattle.sharing.proofs.Checking.{commitments_are}
-use Rattle.sharing.proofs.Lengths.{few_parties, length-short, given_most, ready_offsets}
+use Rattle.sharing.proofs.Lengths.{length-short, given_most, ready_offsets}
 use Rattle.sharing.proofs.checker.feed_text6.Goals as goal
-
-pub take_commitments-requires : goal.take_commitments-requires
-take_commitments-requires g c =
-    let few : parties (parameters c.args.checked.view.header) ≤ 256 = few_parties (parameters c.args.checked.view.header) (omega arith) in
-    search rules
 
 pub take_coded-requires : goal.take_coded-requires
 take_coded-requires g c =

@@ -1,17 +1,12 @@
-use Rattle.std.proofs.Common.{◌*◌, ◌≤◌, length, subst, arith, rules}
+use Rattle.std.proofs.Common.{◌*◌, length, subst, arith}
 use Rattle.protocol.specs.Of.{parameters}
 use Rattle.protocol.specs.Parameters.{parties}
 use Rattle.digest.specs.Making.{Took}
 use Rattle.digest.specs.Short.{short_bytes}
 use Rattle.digest.proofs.Taking.{took_both}
 use Rattle.sharing.proofs.Holding.{commitments_are}
-use Rattle.sharing.proofs.Lengths.{few_parties, drawn_most, ready_offsets}
+use Rattle.sharing.proofs.Lengths.{drawn_most, ready_offsets}
 use Rattle.sharing.proofs.holder.feed_text6.Goals as goal
-
-pub take_commitments-requires : goal.take_commitments-requires
-take_commitments-requires g c =
-    let few : parties (parameters c.args.holder.header) ≤ 256 = few_parties (parameters c.args.holder.header) (omega arith) in
-    search rules
 
 pub take_words-requires : goal.take_words-requires
 take_words-requires g c =

@@ -1,15 +1,11 @@
-use Rattle.std.proofs.Common.{◌≡◌, ◌*◌, ◌≤◌, length, ap, ◌∙◌, subst, arith}
+use Rattle.std.proofs.Common.{◌*◌, ◌≤◌, length, ap, ◌∙◌, subst, arith}
 use Rattle.protocol.specs.Of.{parameters}
 use Rattle.protocol.specs.Parameters.{parties}
-use Rattle.protocol.specs.Sharing.{parts}
 use Rattle.digest.specs.Making.{Took}
-use Rattle.digest.proofs.Taking.{took_none, took_next, took_ok, ready_after}
+use Rattle.digest.proofs.Taking.{took_next, took_ok, ready_after}
 use Rattle.sharing.specs.Known.{commitment_of}
 use Rattle.sharing.proofs.Lengths.{commitments_most, length-short}
 use Rattle.sharing.proofs.parties.take_commitments.Goals as goal
-
-pub loop-j-init : goal.loop-j-init
-loop-j-init g c = took_none _
 
 pub unwrap-requires : goal.unwrap-requires
 unwrap-requires g c =
@@ -32,9 +28,3 @@ loop-j-preserved g c =
     took_next c.loop-j.j (commitment_of g.D.DigestMaker.function c.args.leaves c.args.hidden) c.loop-j.invariant
     (subst (λ t. Took t m' m'') (c.as_slice.ensures.bytes ∙ c.commitment-commitment.ensures)
     (took_ok c.take.result m' m'' bytes ready c.take.ensures.answer c.take.ensures.effect).1)
-
-pub returns : goal.returns
-returns g c =
-    let f = commitment_of g.D.DigestMaker.function c.args.leaves c.args.hidden in
-    let all : c.loop-j.j ≡ parties (parameters c.args.leaves.of.header) = omega arith in
-    subst (λ n. Took (parts n f) (g.D.DigestMaker.means c.args.long.now) (g.D.DigestMaker.means c.loop-j.long)) all c.loop-j.invariant

@@ -1,16 +1,11 @@
-use Rattle.std.proofs.Common.{◌≡◌, ◌*◌, ◌≤◌, subst, arith, rules}
+use Rattle.std.proofs.Common.{◌*◌, ◌≤◌, arith, rules}
 use Rattle.protocol.specs.Of.{parameters}
 use Rattle.protocol.specs.Parameters.{parties}
-use Rattle.protocol.specs.Sharing.{parts}
-use Rattle.digest.specs.Making.{Took}
-use Rattle.digest.proofs.Taking.{took_none, took_next, ready_after}
+use Rattle.digest.proofs.Taking.{took_next, ready_after}
 use Rattle.shares.specs.Shown.{most_shown}
 use Rattle.sharing.specs.Known.{party_text}
 use Rattle.sharing.proofs.Lengths.{few_parties, shares_most}
 use Rattle.sharing.proofs.parties.take_parties.Goals as goal
-
-pub loop-j-init : goal.loop-j-init
-loop-j-init g c = took_none _
 
 pub take_party-requires : goal.take_party-requires
 take_party-requires g c =
@@ -27,8 +22,3 @@ take_party-requires g c =
 
 pub loop-j-preserved : goal.loop-j-preserved
 loop-j-preserved g c = took_next c.loop-j.j (party_text g.D.DigestMaker.function c.args.known) c.loop-j.invariant c.take_party.ensures
-
-pub returns : goal.returns
-returns g c =
-    let all : c.loop-j.j ≡ parties (parameters c.args.known.leaves.of.header) = search rules in
-    subst (λ n. Took (parts n (party_text g.D.DigestMaker.function c.args.known)) (g.D.DigestMaker.means c.args.long.now) (g.D.DigestMaker.means c.loop-j.long)) all c.loop-j.invariant
