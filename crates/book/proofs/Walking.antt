@@ -1,5 +1,5 @@
 -- From entry to entry of a book.
-use Rattle.std.proofs.Common.{◌≡◌, ℕ, ◌+◌, ◌<◌, List, ◌++◌, length, get_or, drop, sym, ap, ◌∙◌, append_assoc, arith, take-append-drop}
+use Rattle.std.proofs.Common.{◌≡◌, ℕ, ◌+◌, ◌<◌, List, ◌++◌, length, get_or, drop, sym, ap, ◌∙◌, append_assoc, arith}
 use Rattle.std.proofs.lemmas.List.{drop_more}
 use Rattle.protocol.specs.Book.{entries_of, entry_at, entry_bytes, size_at, laid, no_entry, well_formed}
 use Rattle.guarantee.proofs.Books.{held_back, rest_back, length-entries}
@@ -11,9 +11,6 @@ use Rattle.book.proofs.Forms.{told, formed_at}
 -- entry k and those behind it, and then what lies past the entries
 abbrev pub Reached : Book → ℕ → List ℕ → Type 0
 Reached b k bytes = bytes ≡ laid (drop k (entries_of (state_of b))) ++ drop b.used b.memory.now
-
-pub start : (b : Book) → Reached b 0 b.memory.now
-start b = sym (take-append-drop b.used b.memory.now) ∙ ap (λ z. z ++ drop b.used b.memory.now) b.intact.1
 
 pub record Here (b : Book) (k : ℕ) (bytes : List ℕ) : Type 0 where
   pub begins : Begins bytes

@@ -2,7 +2,7 @@
 use Rattle.std.proofs.Common.{◌≡◌, ℕ, ◌+◌, ◌*◌, ◌<◌, ◌≤◌, List, [], ◌∷◌, ◌++◌, length, get_or, drop, is_some, Some, None, Option, sym, refl, ap, ◌∙◌, arith}
 use Rattle.std.specs.Option.{option_map}
 use Rattle.std.specs.List.{prefix_len}
-use Rattle.std.proofs.lemmas.List.{append-nil, append_assoc, drop_more, drop_all}
+use Rattle.std.proofs.lemmas.List.{append_assoc, drop_more, drop_all}
 use Rattle.std.proofs.lemmas.List.Sums.{prefix_len-drop_yes, prefix_len-drop_no}
 use Rattle.std.proofs.lemmas.Bool.{lt-ltb, le-ltb, cond-true, cond-false}
 use Rattle.hexadecimal.specs.declared.reading.DecodeError.TheVariants.{OddLength, NotADigit}
@@ -77,8 +77,3 @@ odd_end text bs i v e last r = (
   let all : length text ≤ prefix_len is_digit text = omega (arith, prefix_len-drop_yes is_digit text i 0 (omega arith) (ap is_some last)) in
       sym (cond-false _ _ _ (le-ltb _ _ all)),
 )
-
--- none is left
-pub read_all : (text bs : List ℕ) (i : ℕ) → length text ≤ i → Read text bs i → bytes_of text ≡ Some bs
-read_all text bs i le r =
-    r.bytes ∙ ap (λ (l : List ℕ). option_map (λ rest. bs ++ rest) (bytes_of l)) (drop_all i text le) ∙ ap (λ (l : List ℕ). Some l) (append-nil bs)

@@ -2,7 +2,7 @@ use Rattle.std.proofs.Common.{◌≡◌, ◌+◌, ◌-◌, ◌*◌, true, [], �
 use Rattle.std.proofs.lemmas.Result.{err_from_is_err_and}
 use Rattle.std.proofs.lemmas.Bool.{cond-true}
 use Rattle.hexadecimal.specs.Hex.{value}
-use Rattle.hexadecimal.proofs.Decoding.{Read, read_none, read_more, stopped, stopped_next, odd_end, read_all}
+use Rattle.hexadecimal.proofs.Decoding.{Read, read_none, read_more, stopped, stopped_next, odd_end}
 use Rattle.hexadecimal.proofs.Pairs.{at_pair, at_rest}
 use Rattle.hexadecimal.proofs.reading.decode.Goals as goal
 
@@ -66,6 +66,3 @@ returns-in_ok-value_at-in-len1-up c =
     let h = c.in_ok-value_at-in-len1-up.ensures in
     let digit = c.in_ok-value_at-in-len1-up.field-0 in
     inr (odd_end text bs (length text - 1) digit (omega arith) (ap value (sym at) ∙ h.0) (subst (Read text bs) last c.loop-k.invariant))
-
-pub returns-in-empty : goal.returns-in-empty
-returns-in-empty c = read_all c.args.text.now (vec_items c.loop-k.bytes) (2 * c.loop-k.k) (omega arith) c.loop-k.invariant

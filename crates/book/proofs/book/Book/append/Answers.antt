@@ -1,4 +1,4 @@
-use Rattle.std.proofs.Common.{refl, rules}
+use Rattle.std.proofs.Common.{rules}
 use Rattle.protocol.specs.Book.{entry_bytes}
 use Rattle.book.specs.Of.{state_of, entry_of}
 use Rattle.book.proofs.Adding.{added, intact_added, few}
@@ -14,8 +14,8 @@ invariant_of-self c =
     let there = over s.used (entry_bytes (entry_of c.args.entry)) s.memory _ c.args.self.now.intact.0 c.lay.ensures in
     record { intact = intact_added c.args.entry s c.args.self.now.intact c.requires _ _ there c.entry_length.ensures }
 
-pub returns : goal.returns
-returns c =
+pub returns-clause-state : goal.returns-clause-state
+returns-clause-state c =
     let s = state_of c.args.self.now in
     let there = over s.used (entry_bytes (entry_of c.args.entry)) s.memory _ c.args.self.now.intact.0 c.lay.ensures in
-    record { number = refl; state = added c.args.entry s _ _ there c.entry_length.ensures; same = refl }
+    added c.args.entry s _ _ there c.entry_length.ensures

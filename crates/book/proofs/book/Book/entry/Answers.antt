@@ -1,11 +1,8 @@
 use Rattle.std.proofs.Common.{◌≡◌, sym, ap, ◌∙◌, subst, arith}
 use Rattle.protocol.specs.Book.{well_formed}
 use Rattle.book.specs.Entries.{Shows}
-use Rattle.book.proofs.Walking.{Reached, start, here}
+use Rattle.book.proofs.Walking.{Reached, here}
 use Rattle.book.proofs.book.Book.entry.Goals as goal
-
-pub loop-init : goal.loop-init
-loop-init c = start c.args.self.now
 
 pub cut-requires : goal.cut-requires
 cut-requires c = (here c.args.self.now c.loop.counter c.loop.rest.now (omega arith) c.loop.invariant).begins
