@@ -1,4 +1,4 @@
-//! One row of A·S + E.
+//! One row of A·S + E. C has no Result: what is refused is a `bool` here.
 ghost use Rattle.std.specs.Prelude.{◌≡◌, ℕ, ◌<◌, length, MatchBool};
 ghost use Rattle.lattice.specs.Lines.{at, row_entry};
 ghost use Rattle.exports.specs.Sizes.{fits};

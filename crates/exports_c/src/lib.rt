@@ -1,5 +1,5 @@
 //! The digests, and a row of the product, as C functions, for benchmarks and tests from other languages: those of the crate `exports`,
-//! under their names as symbols of a static library.
+//! under their names as symbols of a static library. C has no Result: what is refused is a `bool` here.
 #![tactic(auto)]
 
 ghost use Rattle.std.specs.Prelude.{◌≡◌, ℕ, ◌<◌, length, is_ok, MatchBool};
@@ -19,7 +19,7 @@ pub extern "C" fn zaghmikhe_shake256(text: &[u8], out: &mut [u8]) -> bool
     ensures answer { result ≡ is_ok (digests (length text.now) (length out.old)) }
     ensures out { MatchBool result (out.new ≡ drawn shake256 text.now (length out.old)) (out.new ≡ out.old) }
 {
-    exports::digest_into::<Shake256>(text, out)
+    exports::digest_into::<Shake256>(text, out).is_ok()
 }
 
 /// The same by stretched SHA-512.
@@ -28,7 +28,7 @@ pub extern "C" fn zaghmikhe_sha512(text: &[u8], out: &mut [u8]) -> bool
     ensures answer { result ≡ is_ok (digests (length text.now) (length out.old)) }
     ensures out { MatchBool result (out.new ≡ drawn stretched text.now (length out.old)) (out.new ≡ out.old) }
 {
-    exports::digest_into::<Stretched>(text, out)
+    exports::digest_into::<Stretched>(text, out).is_ok()
 }
 
 /// A row of A·S + E mod 32768, of the row of A, S by columns and the row of E; false, and the buffer as it was, where the sizes do not
