@@ -1,3 +1,4 @@
 pub mod Absorption
 pub mod Makers
 pub mod Squeezed
+pub mod Columns

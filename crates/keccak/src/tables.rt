@@ -29,6 +29,11 @@ pub(crate) const ROUND_CONSTANTS: [u64; 24] = [
     0x8000000080008008,
 ];
 
+// By how much rho rotates each lane; lane (x, y) stands at 5 * y + x.
+pub(crate) const OFFSETS: [u32; 25] = [
+    0, 1, 62, 28, 27, 36, 44, 6, 55, 20, 3, 10, 43, 25, 39, 41, 45, 15, 21, 8, 18, 2, 61, 56, 14,
+];
+
 /// Every round constant has the bits of the standard's shift register.
 pub fn constants_by_register()
     ensures { ConstantsByRegister }

@@ -1,35 +1,19 @@
-use Rattle.std.proofs.Common.{◌≡◌, ℕ, List, ◌∷◌, refl, ap₂}
-use Rattle.keccak.specs.Keccak.{rho, pi}
+use Rattle.std.proofs.Common.{◌≡◌, ◌+◌, ◌*◌, ◌/◌, ◌%◌, get_or, sym, ap, ◌∙◌, arith, rules, mod-eq_of_lt}
+use Rattle.std.proofs.lemmas.List.FromFn.{get_or-map-range_with_len}
+use Rattle.keccak.specs.Keccak.{lane, rotated, rho, pi}
+use Rattle.keccak.specs.Tables.{offsets}
 use Rattle.keccak.proofs.rounds.spread.Goals as goal
-
-cons : {x y : ℕ} {xs ys : List ℕ} → x ≡ y → xs ≡ ys → x ∷ xs ≡ y ∷ ys
-cons p q = ap₂ (λ (x : ℕ) (xs : List ℕ). x ∷ xs) p q
 
 pub returns : goal.returns
 unfolding rho pi
 returns c =
-    cons c.rotate_left.ensures (
-    cons c.rotate_left-2.ensures (
-    cons c.rotate_left-3.ensures (
-    cons c.rotate_left-4.ensures (
-    cons c.rotate_left-5.ensures (
-    cons c.rotate_left-6.ensures (
-    cons c.rotate_left-7.ensures (
-    cons c.rotate_left-8.ensures (
-    cons c.rotate_left-9.ensures (
-    cons c.rotate_left-10.ensures (
-    cons c.rotate_left-11.ensures (
-    cons c.rotate_left-12.ensures (
-    cons c.rotate_left-13.ensures (
-    cons c.rotate_left-14.ensures (
-    cons c.rotate_left-15.ensures (
-    cons c.rotate_left-16.ensures (
-    cons c.rotate_left-17.ensures (
-    cons c.rotate_left-18.ensures (
-    cons c.rotate_left-19.ensures (
-    cons c.rotate_left-20.ensures (
-    cons c.rotate_left-21.ensures (
-    cons c.rotate_left-22.ensures (
-    cons c.rotate_left-23.ensures (
-    cons c.rotate_left-24.ensures (
-    cons c.rotate_left-25.ensures refl))))))))))))))))))))))))
+    let a = c.args.a in
+    c.state_of.ensures (λ x y. lane (rho a) (x + 3 * y) x)
+    (λ x y r lx ly is.
+    let k = 5 * x + (x + 3 * y) % 5 in
+    let e : r ≡ rotated (get_or a k 0) (get_or offsets k 0) = search rules in
+    let j : k ≡ 5 * (k / 5 % 5) + k % 5 % 5 = omega arith in
+    let u : x ≡ x % 5 = sym (mod-eq_of_lt lx) in
+    e ∙ (λ z. rotated (get_or a (j z) 0) (get_or offsets (j z) 0))
+    ∙ sym (get_or-map-range_with_len (λ i. rotated (lane a (i % 5) (i / 5)) (lane offsets (i % 5) (i / 5))) 0 25 k k 0 (omega arith) (omega arith))
+    ∙ ap (λ v. get_or (rho a) (5 * v + (x + 3 * y) % 5) 0) u)
