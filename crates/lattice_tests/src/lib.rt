@@ -6,9 +6,9 @@ mod tests {
     use lattice::kept::gather_kept;
     use lattice::product::multiply_row;
     use lattice::rows::{matrix_row, multiply};
-    use protocol::set::Set;
     use lattice::sums::Rows;
     use lattice::values::{sample, sample_all};
+    use protocol::set::Set;
 
     const SEED: [u8; 16] = [0, 1, 2, 3, 4, 5, 6, 7, 8, 9, 10, 11, 12, 13, 14, 15];
 

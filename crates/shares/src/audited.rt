@@ -7,9 +7,9 @@ ghost use Rattle.protocol.specs.Sampling.{signed};
 ghost use Rattle.protocol.specs.Sets.{number};
 ghost use Rattle.shares.specs.Shown.{spread};
 
-use protocol::set::Set;
 use lattice::values::{from_byte, residue};
 use protocol::header::Header;
+use protocol::set::Set;
 
 /// The audited value at a place, modulo q, and 0 past the last.
 fn residue_at(set: Set, bytes: &[u8], i: usize) -> u16

@@ -10,9 +10,9 @@ ghost use Rattle.shares.specs.Drawing.{Advanced, value_residues, share};
 use digest::maker::DigestMaker;
 use digest::short::ShortBytes;
 use digest::text::take_text;
-use protocol::set::Set;
 use lattice::values::{read_words, reduce_all, sample_all};
 use protocol::header::Header;
+use protocol::set::Set;
 use seedtree::repetition::Repetition;
 
 /// Draws by way of bytes.

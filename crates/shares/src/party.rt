@@ -17,8 +17,8 @@ use crate::taking::{take_audited, take_words};
 use digest::maker::DigestMaker;
 use digest::short::ShortBytes;
 use digest::text::{draw_short, take_text};
-use protocol::set::Set;
 use lattice::sums::subtract_from;
+use protocol::set::Set;
 use seedtree::repetition::Repetition;
 
 /// A party's commitment to its leaf seed.

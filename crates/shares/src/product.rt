@@ -10,8 +10,8 @@ ghost use Rattle.shares.specs.Sizes.{bench_words};
 
 use lattice::kept::gather_kept;
 use lattice::rows::multiply;
-use protocol::set::Set;
 use protocol::header::Header;
+use protocol::set::Set;
 
 /// What a product is computed in: the kept shares, S of them by columns, one row of A.
 #[derive(Drop)]

@@ -8,8 +8,8 @@ ghost use Rattle.shares.specs.Drawing.{share};
 ghost use Rattle.sharing.specs.Rows.{leaf_in, summed, held};
 
 use digest::maker::DigestMaker;
-use protocol::set::Set;
 use lattice::sums::add_row;
+use protocol::set::Set;
 use seedtree::leaves::Leaves;
 use shares::drawing::draw_shares;
 
