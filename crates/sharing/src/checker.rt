@@ -41,11 +41,11 @@ pub fn feed_text6<D: DigestMaker>(
     checked: Checked<'_>,
     scratch: &mut [u16],
 )
-    requires scratch { scratch_words (parameters checked.view.header) ≤ length scratch.old }
+    requires scratch { scratch_words (parameters checked.whole.view.header) ≤ length scratch.old }
     requires ready { Ready most_committed (D.DigestMaker.means long.old) }
-    ensures { let x = checked.entry in Took (record_commitments D.DigestMaker.function (parameters x.view.header) x.view.bytes.now x.hidden.now x.number) (D.DigestMaker.means long.old) (D.DigestMaker.means long.new) }
+    ensures { let x = checked.entry in Took (record_commitments D.DigestMaker.function (parameters x.whole.view.header) x.whole.view.bytes.now x.hidden.now x.number) (D.DigestMaker.means long.old) (D.DigestMaker.means long.new) }
 {
-    let header = checked.view.header;
+    let header = checked.whole.view.header;
     let Scratch { nodes, .. } = cut_scratch(header, scratch);
     let block = checked.block();
     let of = Repetition {
@@ -73,17 +73,17 @@ fn rebuild<D: DigestMaker>(
     key: &mut [u16],
     nodes: &mut [u16],
 )
-    requires shares { length shares.old ≡ (parameters checked.view.header).m }
-    requires offsets { length offsets.old ≡ (parameters checked.view.header).m }
-    requires sums { length sums.old ≡ (parameters checked.view.header).m }
-    requires key { length key.old ≡ (parameters checked.view.header).n * (parameters checked.view.header).c }
-    requires nodes { 32 * parties (parameters checked.view.header) ≤ length nodes.old }
-    ensures tree { let x = checked.entry in let p = parameters x.view.header in Regrown D.DigestMaker.function (short_bytes x.salt.now) x.number p.h (slice_index x.hidden.now x.number) (field_part p x.view.bytes.now (field.Seeds x.number)) nodes.new }
-    ensures offsets { let x = checked.entry in let p = parameters x.view.header in offsets.new ≡ words (field_part p x.view.bytes.now (field.Offsets x.number)) p.m }
-    ensures key { let x = checked.entry in let p = parameters x.view.header in key.new ≡ words (field_part p x.view.bytes.now field.Key) (p.n * p.c) }
-    ensures sums { let x = checked.entry in let p = parameters x.view.header in sums.new ≡ map (others_held D.DigestMaker.function p (short_bytes x.salt.now) x.number nodes.new offsets.new (slice_index x.hidden.now x.number)) (range_with_len 0 p.m) }
+    requires shares { length shares.old ≡ (parameters checked.whole.view.header).m }
+    requires offsets { length offsets.old ≡ (parameters checked.whole.view.header).m }
+    requires sums { length sums.old ≡ (parameters checked.whole.view.header).m }
+    requires key { length key.old ≡ (parameters checked.whole.view.header).n * (parameters checked.whole.view.header).c }
+    requires nodes { 32 * parties (parameters checked.whole.view.header) ≤ length nodes.old }
+    ensures tree { let x = checked.entry in let p = parameters x.whole.view.header in Regrown D.DigestMaker.function (short_bytes x.salt.now) x.number p.h (slice_index x.hidden.now x.number) (field_part p x.whole.view.bytes.now (field.Seeds x.number)) nodes.new }
+    ensures offsets { let x = checked.entry in let p = parameters x.whole.view.header in offsets.new ≡ words (field_part p x.whole.view.bytes.now (field.Offsets x.number)) p.m }
+    ensures key { let x = checked.entry in let p = parameters x.whole.view.header in key.new ≡ words (field_part p x.whole.view.bytes.now field.Key) (p.n * p.c) }
+    ensures sums { let x = checked.entry in let p = parameters x.whole.view.header in sums.new ≡ map (others_held D.DigestMaker.function p (short_bytes x.salt.now) x.number nodes.new offsets.new (slice_index x.hidden.now x.number)) (range_with_len 0 p.m) }
 {
-    let header = checked.view.header;
+    let header = checked.whole.view.header;
     let block = checked.block();
     let of = Repetition {
         header,
@@ -93,7 +93,7 @@ fn rebuild<D: DigestMaker>(
     let party = checked.party();
     regrow(maker, of, party, block.seeds, nodes);
     read_words(block.offsets, offsets);
-    read_words(checked.view.part(Field::Key).bytes, key);
+    read_words(checked.whole.view.part(Field::Key).bytes, key);
     sum_shares(maker, Leaves { of, nodes }, Some(party), shares, sums);
     if party != 0 {
         add_row(header.set, sums, offsets);
@@ -110,14 +110,14 @@ pub fn feed_text7<'a, D: DigestMaker>(
     flags: &'a [u16],
     scratch: &'a mut [u16],
 )
-    requires values { values.now ≡ spread (parameters checked.view.header) flags.now (field_part (parameters checked.view.header) checked.view.bytes.now field.Audited) }
-    requires flags { length flags.now ≡ (parameters checked.view.header).m }
-    requires kept { ones flags.now ≡ sigma (parameters checked.view.header) }
-    requires scratch { scratch_words (parameters checked.view.header) ≤ length scratch.old }
+    requires values { values.now ≡ spread (parameters checked.whole.view.header) flags.now (field_part (parameters checked.whole.view.header) checked.whole.view.bytes.now field.Audited) }
+    requires flags { length flags.now ≡ (parameters checked.whole.view.header).m }
+    requires kept { ones flags.now ≡ sigma (parameters checked.whole.view.header) }
+    requires scratch { scratch_words (parameters checked.whole.view.header) ≤ length scratch.old }
     requires ready { Ready (256 * most_shown) (D.DigestMaker.means long.old) }
-    ensures { let x = checked.entry in Took (record_shares D.DigestMaker.function (parameters x.view.header) x.view.bytes.now x.hidden.now flags.now x.number) (D.DigestMaker.means long.old) (D.DigestMaker.means long.new) }
+    ensures { let x = checked.entry in Took (record_shares D.DigestMaker.function (parameters x.whole.view.header) x.whole.view.bytes.now x.hidden.now flags.now x.number) (D.DigestMaker.means long.old) (D.DigestMaker.means long.new) }
 {
-    let header = checked.view.header;
+    let header = checked.whole.view.header;
     let Scratch {
         shares,
         offsets,

@@ -12,7 +12,7 @@ use Rattle.sharing.proofs.checker.feed_text6.Goals as goal
 pub take_coded-requires : goal.take_coded-requires
 take_coded-requires g c =
     let x = c.args.checked in
-    let p = parameters x.view.header in
+    let p = parameters x.whole.view.header in
     let most = given_most g.D.DigestMaker.function p (short_bytes x.salt.now) x.number c.regrow.new.nodes c.party-party.result (short_bytes c.unwrap.result) (length-short c.unwrap.result) (parties p) in
     record {
       pairs = c.block-block.ensures.offsets_long;
@@ -23,13 +23,13 @@ pub returns : goal.returns
 returns g c =
     let F = g.D.DigestMaker.function in
     let x = c.args.checked in
-    let p = parameters x.view.header in
+    let p = parameters x.whole.view.header in
     let salt = short_bytes x.salt.now in
     let party = c.party-party.result in
     let nodes = c.regrow.new.nodes in
     let given : short_bytes c.unwrap.result ≡ c.block-block.result.commitment.now = search rules in
     subst (λ t. Took t (g.D.DigestMaker.means c.args.long.now) (g.D.DigestMaker.means c.take_coded.new.maker))
-    (commitments_are F p x.view.bytes.now x.hidden.now salt x.salted x.number party c.party-party.ensures nodes
+    (commitments_are F p x.whole.view.bytes.now x.hidden.now salt x.salted x.number party c.party-party.ensures nodes
     (subst (λ s. Regrown F salt x.number p.h party s nodes) c.block-block.ensures.seeds c.regrow.ensures)
     _ _ (given ∙ c.block-block.ensures.commitment) c.block-block.ensures.offsets)
     (took_both c.take_commitments.ensures c.take_coded.ensures)

@@ -17,15 +17,15 @@ use Rattle.sharing.proofs.checker.feed_text7.Goals as goal
 pub invariant_of-known-2-clause-values_long : goal.invariant_of-known-2-clause-values_long
 unfolding spread
 invariant_of-known-2-clause-values_long g c h is =
-    has_it (λ m. length m.values.now ≡ c.args.checked.view.header.m) is (ap length c.requires.values ∙ length-map-range_with_len _ 0 c.args.checked.view.header.m)
+    has_it (λ m. length m.values.now ≡ c.args.checked.whole.view.header.m) is (ap length c.requires.values ∙ length-map-range_with_len _ 0 c.args.checked.whole.view.header.m)
 
 pub returns : goal.returns
 unfolding record_shares
 returns g c =
     let F = g.D.DigestMaker.function in
     let x = c.args.checked in
-    let p = parameters x.view.header in
-    let r = x.view.bytes.now in
+    let p = parameters x.whole.view.header in
+    let r = x.whole.view.bytes.now in
     let hidden = x.hidden.now in
     let salt = short_bytes x.salt.now in
     let e = x.number in

@@ -17,7 +17,7 @@ use Rattle.sharing.proofs.checker.rebuild.Goals as goal
 
 pub read_words-requires-2 : goal.read_words-requires-2
 read_words-requires-2 g c =
-    ap length c.part.ensures.holds ∙ key_long (parameters c.args.checked.view.header) c.args.checked.view.bytes.now c.args.checked.long ∙ ap (λ n. 2 * n) (sym c.requires.key)
+    ap length c.part.ensures.holds ∙ key_long (parameters c.args.checked.whole.view.header) c.args.checked.whole.view.bytes.now c.args.checked.whole.long ∙ ap (λ n. 2 * n) (sym c.requires.key)
 
 regrown_from : (F : Digest) (salt : List ℕ) (e h : ℕ) (nodes seeds seeds' : List ℕ) (party party' : ℕ) → seeds ≡ seeds' → party ≡ party' →
     Regrown F salt e h party seeds nodes → Regrown F salt e h party' seeds' nodes
@@ -28,7 +28,7 @@ pub returns-then-party-ne0 : goal.returns-then-party-ne0
 returns-then-party-ne0 g c =
     let F = g.D.DigestMaker.function in
     let x = c.args.checked in
-    let p = parameters x.view.header in
+    let p = parameters x.whole.view.header in
     let salt = short_bytes x.salt.now in
     let e = x.number in
     let party = c.party-party.result in
@@ -50,7 +50,7 @@ pub returns-else-party-ne0 : goal.returns-else-party-ne0
 returns-else-party-ne0 g c =
     let F = g.D.DigestMaker.function in
     let x = c.args.checked in
-    let p = parameters x.view.header in
+    let p = parameters x.whole.view.header in
     let salt = short_bytes x.salt.now in
     let e = x.number in
     let party = c.party-party.result in

@@ -5,13 +5,13 @@ use Rattle.sharing.proofs.checked.Checked.block.Goals as goal
 
 pub returns : goal.returns
 returns c =
-    let p = parameters c.args.self.view.header in
-    let r = c.args.self.view.bytes.now in
+    let p = parameters c.args.self.whole.view.header in
+    let r = c.args.self.whole.view.bytes.now in
     record {
       commitment = c.part.ensures.holds;
-      commitment_long = ap length c.part.ensures.holds ∙ commitment_long p r c.args.self.long c.args.self.number c.args.self.within;
+      commitment_long = ap length c.part.ensures.holds ∙ commitment_long p r c.args.self.whole.long c.args.self.number c.args.self.within;
       seeds = c.part-2.ensures.holds;
-      seeds_long = ap length c.part-2.ensures.holds ∙ seeds_long p r c.args.self.long c.args.self.number c.args.self.within;
+      seeds_long = ap length c.part-2.ensures.holds ∙ seeds_long p r c.args.self.whole.long c.args.self.number c.args.self.within;
       offsets = c.part-3.ensures.holds;
-      offsets_long = ap length c.part-3.ensures.holds ∙ offsets_long p r c.args.self.long c.args.self.number c.args.self.within;
+      offsets_long = ap length c.part-3.ensures.holds ∙ offsets_long p r c.args.self.whole.long c.args.self.number c.args.self.within;
     }

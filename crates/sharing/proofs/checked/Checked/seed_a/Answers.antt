@@ -4,4 +4,4 @@ use Rattle.sharing.proofs.Reading.{seed_a_long}
 use Rattle.sharing.proofs.checked.Checked.seed_a.Goals as goal
 
 pub copy_from_slice-requires : goal.copy_from_slice-requires
-copy_from_slice-requires c = sym (ap length c.part.ensures.holds ∙ seed_a_long (parameters c.args.self.view.header) c.args.self.view.bytes.now c.args.self.long)
+copy_from_slice-requires c = sym (ap length c.part.ensures.holds ∙ seed_a_long (parameters c.args.self.whole.view.header) c.args.self.whole.view.bytes.now c.args.self.whole.long)
