@@ -2,6 +2,7 @@
 ghost use Rattle.protocol.specs.Book.{Intact};
 
 /// Entries end to end at the front of the memory, each of them well-formed.
+// memory with its counts beside it: it is lent, and there is no heap
 #[derive(Drop)]
 pub struct Book<'a> {
     pub(crate) memory: &'a mut [u8],

@@ -12,7 +12,9 @@ ghost use Rattle.keccak.specs.Sponge.{shake128};
 ghost use Rattle.digest.specs.Handing.{HandedBack};
 ghost use Rattle.digest.specs.Making.{Holding};
 ghost use Rattle.digest.specs.Short.{short_bytes};
+ghost use Rattle.shares.specs.Drawing.{value_residues};
 ghost use Rattle.sharing.specs.Parts.{scheme};
+ghost use Rattle.sharing.specs.Sizes.{scratch_words};
 ghost use Rattle.ceremony.specs.Stages.{committed_as};
 
 use crate::stages::Committed;
@@ -44,6 +46,39 @@ pub(crate) fn test_lent(header: Header, attributes: &[u8], words: &[u16]) -> Res
     Ok(())
 }
 
+/// Makes the values of salt and master, and d1; both makers are left begun.
+pub(crate) fn digest_first<D: DigestMaker>(
+    short: &mut D,
+    long: &mut D,
+    header: Header,
+    salt: &ShortBytes,
+    master: &[u8; 32],
+    attributes: &[u8],
+    values: &mut [u16],
+    scratch: &mut [u16],
+) -> ShortBytes
+    requires attributes { length attributes.now ≡ (parameters header).a }
+    requires values { length values.old ≡ (parameters header).m }
+    requires scratch { scratch_words (parameters header) ≤ length scratch.old }
+    ensures digest { short_bytes result ≡ drawn D.DigestMaker.function (honest6 (scheme D.DigestMaker.function (parameters header)) (secret_of D.DigestMaker.function (parameters header) (short_bytes salt.now) master.now attributes.now [] [] [])) (width (parameters header)) }
+    ensures values { values.new ≡ value_residues D.DigestMaker.function (parameters header) (short_bytes salt.now) master.now }
+    ensures short { Holding D.DigestMaker.function [] (D.DigestMaker.means short.new) }
+    ensures long { Holding D.DigestMaker.function [] (D.DigestMaker.means long.new) }
+{
+    draw_values(short, header, salt, master, values);
+    let holder = Holder {
+        header,
+        salt,
+        master,
+        values,
+        of: PhantomData,
+    };
+    let d1 = digest_text6(short, long, holder, attributes, scratch);
+    short.begin();
+    long.begin();
+    d1
+}
+
 /// The digest d1 of salt, master and attributes; both makers are left begun.
 fn digest_commitments<D: DigestMaker>(
     short: &mut D,
@@ -65,18 +100,9 @@ fn digest_commitments<D: DigestMaker>(
         flags: _,
         scratch,
     } = cut_work(header, words);
-    draw_values(short, header, salt, master, values);
-    let holder = Holder {
-        header,
-        salt,
-        master,
-        values,
-        of: PhantomData,
-    };
-    let d1 = digest_text6(short, long, holder, attributes, scratch);
-    short.begin();
-    long.begin();
-    d1
+    digest_first(
+        short, long, header, salt, master, attributes, values, scratch,
+    )
 }
 
 /// On memory that the caller wipes.

@@ -1,4 +1,4 @@
-//! Digests made anew, and held to those that the ceremony keeps.
+//! Digests made anew for key and open, and held to those that the ceremony keeps.
 ghost use Rattle.std.specs.Prelude.{◌≡◌, ℕ, ◌<◌, ◌≤◌, [], ◌∷◌, length, slice_index};
 ghost use Rattle.protocol.specs.Ceremony.{secret_of, rebuilt_test};
 ghost use Rattle.protocol.specs.Of.{parameters};
@@ -12,14 +12,13 @@ ghost use Rattle.shares.specs.Drawing.{value_residues};
 ghost use Rattle.sharing.specs.Parts.{scheme};
 ghost use Rattle.sharing.specs.Sizes.{scratch_words};
 
+use crate::commit::digest_first;
 use digest::maker::DigestMaker;
 use digest::short::ShortBytes;
 use protocol::fault::Fault;
 use protocol::header::Header;
-use shares::drawing::draw_values;
-use sharing::held::{Asked, Holder};
-use std::marker::PhantomData;
-use texts::holder::{digest_text6, digest_text7};
+use sharing::held::Asked;
+use texts::holder::digest_text7;
 
 /// A digest that was made anew must be the one that is kept.
 fn test_rebuilt(anew: &ShortBytes, kept: &ShortBytes) -> Result<(), Fault>
@@ -52,17 +51,9 @@ pub(crate) fn rebuild_first<D: DigestMaker>(
     ensures short { Holding D.DigestMaker.function [] (D.DigestMaker.means short.new) }
     ensures long { Holding D.DigestMaker.function [] (D.DigestMaker.means long.new) }
 {
-    draw_values(short, header, salt, master, values);
-    let holder = Holder {
-        header,
-        salt,
-        master,
-        values,
-        of: PhantomData,
-    };
-    let anew = digest_text6(short, long, holder, attributes, scratch);
-    short.begin();
-    long.begin();
+    let anew = digest_first(
+        short, long, header, salt, master, attributes, values, scratch,
+    );
     test_rebuilt(&anew, d1)
 }
 

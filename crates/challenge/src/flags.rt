@@ -26,6 +26,7 @@ fn flag_byte(flags: &[u16], b: usize) -> u8
     ensures { result ≡ bits flags.now (8 * b) 8 }
 {
     let mut byte = 0;
+    // by number, since the last byte may have flags past the last value
     for k in (8 * b..8 * b + 8).rev() {
         byte = 2 * byte + flag(flags, k);
     }

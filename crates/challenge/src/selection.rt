@@ -43,6 +43,7 @@ fn flag_kept<C: Challenger>(
 {
     flags.fill(0);
     challenger.first(salt, d1);
+    // by number: the choice is drawn modulo j + 1
     for j in flags.len() - count..flags.len() {
         let mut bytes = [0; 8];
         challenger.next(&mut bytes).unwrap();

@@ -52,7 +52,8 @@ fn take_both(shake: &mut Shake256, sha: &mut Stretched, bytes: &[u8]) -> Result<
     sha.take(bytes)
 }
 
-/// Has both makers take standard input: what they answer, beside what reading it answers.
+/// Has both makers take standard input: what they answer, beside what reading it answers. A failed read ends the program; a refusal is
+/// told to its user.
 fn take_input(
     rt: &HostRuntime,
     shake: &mut Shake256,

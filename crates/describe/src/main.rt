@@ -3,7 +3,7 @@
 
 use hexadecimal::writing::Hex;
 use protocol::field::Field;
-use record::header::read_record;
+use record::reading::read_whole;
 use record::view::Record;
 use std::io::Read;
 use std::{env, fmt, io};
@@ -58,8 +58,8 @@ fn main(rt: HostRuntime) -> io::Result<()> {
     let mut input = Vec::new(rt.alloc());
     rt.stdin().read_to_end(&mut input)?;
     let bytes = input.as_slice();
-    match read_record(bytes) {
-        Ok(header) => describe(&rt, Record::over(bytes, header)),
+    match read_whole(bytes) {
+        Ok(whole) => describe(&rt, whole.view),
         Err(fault) => println!(rt; "{fault}"),
     }
 }

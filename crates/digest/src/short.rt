@@ -5,6 +5,7 @@ ghost use Rattle.std.specs.Prelude.{◌≤◌};
 pub const MOST: usize = 64;
 
 /// Up to 64 bytes.
+// an array with its width beside it: there is no heap, and short bytes are copied as values
 #[derive(Clone, Copy)]
 pub struct ShortBytes {
     pub(crate) bytes: [u8; 64],

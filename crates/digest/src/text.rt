@@ -7,7 +7,8 @@ ghost use Rattle.digest.specs.Short.{short_bytes};
 use crate::maker::DigestMaker;
 use crate::short::ShortBytes;
 
-/// Begins the maker and has it take a label and three short parts.
+/// Begins the maker and has it take a label and three short parts; what a text has less of is an empty part. The label is the number by
+/// which the format knows the text.
 pub fn take_text<D: DigestMaker>(maker: &mut D, label: u8, a: &[u8], b: &[u8], c: &[u8])
     requires a { length a.now ≤ 64 }
     requires b { length b.now ≤ 64 }

@@ -1,5 +1,5 @@
-//! One row of A·S + E. C has no Result: what is refused is a `bool` here.
-ghost use Rattle.std.specs.Prelude.{◌≡◌, ℕ, ◌<◌, length, MatchBool};
+//! One row of A·S + E.
+ghost use Rattle.std.specs.Prelude.{◌≡◌, ℕ, ◌<◌, length, is_ok, MatchResult};
 ghost use Rattle.lattice.specs.Lines.{at, row_entry};
 ghost use Rattle.exports.specs.Sizes.{fits};
 
@@ -15,15 +15,24 @@ fn fits(row: &[u16], columns: &[u16], errors: &[u16], out: &[u16]) -> bool
         && errors.len() == out.len()
 }
 
-/// A row of A·S + E mod 32768, of the row of A, S by columns and the row of E; false, and the buffer as it was, where the sizes do not
+/// Sizes that do not go together, or are past those of a header.
+#[derive(Clone, Copy, PartialEq, Eq, Debug)]
+pub struct Unfit;
+
+/// A row of A·S + E mod 32768, of the row of A, S by columns and the row of E; refused, and the buffer as it was, where the sizes do not
 /// go together or are past those of a header.
-pub fn zaghmikhe_multiply_row(row: &[u16], columns: &[u16], errors: &[u16], out: &mut [u16]) -> bool
-    ensures answer { result ≡ fits row.now columns.now errors.now out.old }
-    ensures out { MatchBool result ((l : ℕ) → l < length out.old → at out.new l ≡ row_entry 32768 (length row.now) row.now columns.now (at errors.now l) l) (out.new ≡ out.old) }
+pub fn multiply_row_into(
+    row: &[u16],
+    columns: &[u16],
+    errors: &[u16],
+    out: &mut [u16],
+) -> Result<(), Unfit>
+    ensures answer { is_ok result ≡ fits row.now columns.now errors.now out.old }
+    ensures out { MatchResult result (λ _. (l : ℕ) → l < length out.old → at out.new l ≡ row_entry 32768 (length row.now) row.now columns.now (at errors.now l) l) (λ _. out.new ≡ out.old) }
 {
     if !fits(row, columns, errors, out) {
-        return false;
+        return Err(Unfit);
     }
     multiply_row(Set::One, out.len(), 0, row, columns, errors, out);
-    true
+    Ok(())
 }

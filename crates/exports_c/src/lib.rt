@@ -43,5 +43,5 @@ pub extern "C" fn zaghmikhe_multiply_row(
     ensures answer { result ≡ fits row.now columns.now errors.now out.old }
     ensures out { MatchBool result ((l : ℕ) → l < length out.old → at out.new l ≡ row_entry 32768 (length row.now) row.now columns.now (at errors.now l) l) (out.new ≡ out.old) }
 {
-    exports::product::zaghmikhe_multiply_row(row, columns, errors, out)
+    exports::product::multiply_row_into(row, columns, errors, out).is_ok()
 }

@@ -4,7 +4,7 @@ ghost use Rattle.keccak.specs.Keccak.{state, theta, rho, pi, chi, round};
 
 use crate::tables::OFFSETS;
 
-// The state whose lane (x, y), which stands at 5 * y + x, is f of x and y.
+// The state whose lane (x, y), which stands at 5 * y + x, is f of x and y: a lane's place is both, so two loops go over them.
 fn state_of<F: Fn(usize, usize) -> u64>(f: F) -> [u64; 25]
     requires { (x y : ℕ) → x < 5 → y < 5 → F.pre f x y }
     ensures { (h : ℕ → ℕ → ℕ) → ((x y r : ℕ) → x < 5 → y < 5 → F.post f x y r → r ≡ h x y) → result ≡ state h }

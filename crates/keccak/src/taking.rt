@@ -7,7 +7,7 @@ ghost use Rattle.keccak.specs.Meaning.{absorbing};
 use crate::block::absorb;
 use crate::state::Sponge;
 
-// Copies the bytes into a buffer, from a place on.
+// Copies the bytes into a buffer, from a place on. One call of the library, with a contract in the words of this crate's proofs.
 pub(crate) fn put(out: &mut [u8], at: usize, bytes: &[u8])
     requires { at + length bytes.now ≤ length out.old }
     ensures { out.new ≡ paste out.old at bytes.now (length bytes.now) }

@@ -1,4 +1,4 @@
-//! FrodoKEM keys: the three sets, values, shares, rows of A, and B = A·S + E.
+//! FrodoKEM keys: values, sums of shares, rows of A, and B = A·S + E.
 #![tactic(auto)]
 
 pub mod kept;

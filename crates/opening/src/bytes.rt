@@ -4,7 +4,7 @@ ghost use Rattle.std.specs.List.{flat_map};
 ghost use Rattle.protocol.specs.Book.{wrote};
 ghost use Rattle.protocol.specs.Bytes.{le16};
 
-/// Writes these bytes.
+/// Writes these bytes: one call of the library, with a contract in the words of the format.
 pub fn put(out: &mut [u8], at: usize, bytes: &[u8])
     requires { at + length bytes.now ≤ length out.old }
     ensures { out.new ≡ wrote at bytes.now out.old }

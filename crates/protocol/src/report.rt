@@ -33,6 +33,7 @@ impl Fault {
         }
     }
 
+    /// Where it arises, or what is due, as the table of refusals says; 0 where a refusal has no place, as its line prints it.
     pub fn place(self) -> usize
         ensures { result ≡ place self }
     {

@@ -29,6 +29,7 @@ pub fn spread_audited(header: Header, flags: &[u16], bytes: &[u8], values: &mut 
     ensures { values.new ≡ spread (parameters header) flags.now bytes.now }
 {
     let set = header.set;
+    // by a count beside the place: at a kept one stands the next that is audited, which is then not passed
     let mut next = 0;
     for (k, value) in values.iter_mut().enumerate() {
         *value = residue_at(set, bytes, next);

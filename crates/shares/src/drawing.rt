@@ -31,6 +31,7 @@ pub fn draw_words<D: DigestMaker>(maker: &mut D, words: &mut [u16])
     requires { (D.DigestMaker.means maker.old).drawn + 2 * length words.old ≤ limit }
     ensures { words.new ≡ map (stream_word ((D.DigestMaker.means maker.old).rule [])) (range_with_len 0 (length words.old)) }
 {
+    // by places: of a slice cut by chunks_mut no clause says what it ends as
     let end = words.len();
     for from in (0..end).step_by(64) {
         let n = (end - from).min(64);

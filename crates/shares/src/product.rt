@@ -34,6 +34,7 @@ fn cut_bench(header: Header, bench: &mut [u16]) -> Bench<'_>
 }
 
 /// The key rule over the kept ones of a row.
+// flags and no `Kept`: it asks for as many as there are shares, and not for as many as a header has values
 pub fn share_product(
     header: Header,
     seed_a: &[u8; 16],

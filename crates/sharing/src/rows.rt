@@ -14,6 +14,7 @@ use seedtree::leaves::Leaves;
 use shares::drawing::draw_shares;
 
 /// Party j's shares as they are drawn.
+// that j is a party's number stays a clause: loops count it, and no value has it
 fn draw_row<D: DigestMaker>(maker: &mut D, leaves: Leaves<'_>, j: usize, shares: &mut [u16])
     requires party { j < parties (parameters leaves.of.header) }
     requires room { length shares.old ≡ (parameters leaves.of.header).m }

@@ -45,6 +45,7 @@ pub fn begin_text7<D: DigestMaker>(
     requires plain { (k : ℕ) → slice_index flags.now k < 2 }
     requires few { length flags.now ≤ 32768 }
     ensures holds { Holding D.DigestMaker.function (7 ∷ (short_bytes salt.now ++ (short_bytes d1.now ++ (flags.now ++ seed_a.now)))) (D.DigestMaker.means long.new) }
+    // the length is the array's; a proof whose seedA lies in a struct reads it here
     ensures seed { length seed_a.now ≡ 16 }
 {
     take_text(long, 7, salt.as_slice(), d1.as_slice(), &[]);

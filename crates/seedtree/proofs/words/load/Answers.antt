@@ -6,12 +6,6 @@ use Rattle.seedtree.specs.Words.{seed_in}
 use Rattle.seedtree.proofs.Seeds.{loaded_more}
 use Rattle.seedtree.proofs.words.load.Goals as goal
 
-pub loop-i-preserved : goal.loop-i-preserved
-loop-i-preserved c = (
-  simp length-set c.loop-i.invariant.0,
-  loaded_more _ c.loop-i.seed c.loop-i.i c.to_le_bytes.result c.loop-i-test.true (omega arith) c.to_le_bytes.ensures c.loop-i.invariant.1,
-)
-
 pub returns : goal.returns
 unfolding seed_in
 returns c =

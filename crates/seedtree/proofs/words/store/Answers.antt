@@ -5,9 +5,6 @@ use Rattle.protocol.specs.Bytes.{le16}
 use Rattle.seedtree.proofs.Seeds.{stored_more, stored_row}
 use Rattle.seedtree.proofs.words.store.Goals as goal
 
-pub loop-i-preserved : goal.loop-i-preserved
-loop-i-preserved c = stored_more c.loop-i.row c.args.seed.now c.loop-i.i c.from_le_bytes.result (omega arith) (omega arith) (λ k. omega (arith, c.type_inv.seed k)) c.from_le_bytes.ensures c.loop-i.invariant
-
 pub returns : goal.returns
 returns c =
     stored_row c.args.words.now c.loop-i.row c.args.seed.now c.args.k c.requires.room (omega arith)

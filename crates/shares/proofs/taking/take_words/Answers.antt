@@ -7,22 +7,8 @@ use Rattle.digest.proofs.Taking.{took_none}
 use Rattle.shares.proofs.Rows.{word_taken}
 use Rattle.shares.proofs.taking.take_words.Goals as goal
 
-pub loop-word-init : goal.loop-word-init
-loop-word-init g c = took_none _
-
 pub unwrap-requires : goal.unwrap-requires
 unwrap-requires g c =
     (word_taken c.take.result (g.D.DigestMaker.means c.args.maker.now) (g.D.DigestMaker.means c.loop-word.maker) (g.D.DigestMaker.means c.take.new.self)
     c.args.words.now c.loop-word.word-index c.to_le_bytes.result c.loop-word-test.true c.to_le_bytes.ensures c.requires c.loop-word.invariant
     c.take.ensures.answer c.take.ensures.effect).0
-
-pub loop-word-preserved : goal.loop-word-preserved
-loop-word-preserved g c =
-    (word_taken c.take.result (g.D.DigestMaker.means c.args.maker.now) (g.D.DigestMaker.means c.loop-word.maker) (g.D.DigestMaker.means c.take.new.self)
-    c.args.words.now c.loop-word.word-index c.to_le_bytes.result c.loop-word-test.true c.to_le_bytes.ensures c.requires c.loop-word.invariant
-    c.take.ensures.answer c.take.ensures.effect).1
-
-pub returns : goal.returns
-returns g c =
-    subst (λ ws. Took (flat_map le16 ws) (g.D.DigestMaker.means c.args.maker.now) (g.D.DigestMaker.means c.loop-word.maker))
-    (take_all c.loop-word.word-index c.args.words.now c.loop-word-test.false) c.loop-word.invariant

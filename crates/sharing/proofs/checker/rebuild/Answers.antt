@@ -15,10 +15,6 @@ use Rattle.sharing.proofs.Offsetting.{others_with, others_without}
 use Rattle.sharing.proofs.Reading.{key_long}
 use Rattle.sharing.proofs.checker.rebuild.Goals as goal
 
-pub read_words-requires-2 : goal.read_words-requires-2
-read_words-requires-2 g c =
-    ap length c.part.ensures.holds ∙ key_long (parameters c.args.checked.whole.view.header) c.args.checked.whole.view.bytes.now c.args.checked.whole.long ∙ ap (λ n. 2 * n) (sym c.requires.key)
-
 regrown_from : (F : Digest) (salt : List ℕ) (e h : ℕ) (nodes seeds seeds' : List ℕ) (party party' : ℕ) → seeds ≡ seeds' → party ≡ party' →
     Regrown F salt e h party seeds nodes → Regrown F salt e h party' seeds' nodes
 regrown_from F salt e h nodes seeds seeds' party party' s is grown =

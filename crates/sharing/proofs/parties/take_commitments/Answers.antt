@@ -15,16 +15,3 @@ unwrap-requires g c =
     let few : length bytes ≤ 64 = omega (arith, ap length c.as_slice.ensures.bytes, length-short c.commitment-commitment.result) in
     let ready = ready_after _ _ _ (64 * n) (length bytes) c.requires (omega (arith, most, few)) c.loop-j.invariant in
     (took_ok c.take.result (g.D.DigestMaker.means c.loop-j.long) (g.D.DigestMaker.means c.take.new.self) bytes ready c.take.ensures.answer c.take.ensures.effect).0
-
-pub loop-j-preserved : goal.loop-j-preserved
-loop-j-preserved g c =
-    let n = parties (parameters c.args.leaves.of.header) in
-    let bytes = c.as_slice.result.now in
-    let m' = g.D.DigestMaker.means c.loop-j.long in
-    let m'' = g.D.DigestMaker.means c.take.new.self in
-    let most = commitments_most g.D.DigestMaker.function c.args.leaves c.args.hidden c.loop-j.j in
-    let few : length bytes ≤ 64 = omega (arith, ap length c.as_slice.ensures.bytes, length-short c.commitment-commitment.result) in
-    let ready = ready_after _ _ _ (64 * n) (length bytes) c.requires (omega (arith, most, few)) c.loop-j.invariant in
-    took_next c.loop-j.j (commitment_of g.D.DigestMaker.function c.args.leaves c.args.hidden) c.loop-j.invariant
-    (subst (λ t. Took t m' m'') (c.as_slice.ensures.bytes ∙ c.commitment-commitment.ensures)
-    (took_ok c.take.result m' m'' bytes ready c.take.ensures.answer c.take.ensures.effect).1)

@@ -19,6 +19,3 @@ take_party-requires g c =
       room = search rules;
       ready = ready_after _ _ _ (256 * most_shown) most_shown c.requires.ready (search rules) c.loop-j.invariant;
     }
-
-pub loop-j-preserved : goal.loop-j-preserved
-loop-j-preserved g c = took_next c.loop-j.j (party_text g.D.DigestMaker.function c.args.known) c.loop-j.invariant c.take_party.ensures

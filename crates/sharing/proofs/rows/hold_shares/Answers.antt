@@ -18,14 +18,3 @@ returns-then-j-eq0 g c =
     let j = c.args.j in
     added_row _ p.set p.m c.draw_row.new.shares c.args.offsets.now _ (share F p salt c.args.leaves.of.number j (leaf_in p nodes j)) (at c.args.offsets.now) (held F p salt c.args.leaves.of.number nodes c.args.offsets.now j)
     refl c.draw_row.ensures c.add_row.ensures (λ k q. refl) (λ k q. sym (cond-true (eqb j 0) _ _ (eq-eqb j 0 c.if-j-eq0.true)))
-
-pub returns-else-j-eq0 : goal.returns-else-j-eq0
-returns-else-j-eq0 g c =
-    let F = g.D.DigestMaker.function in
-    let p = parameters c.args.leaves.of.header in
-    let salt = short_bytes c.args.leaves.of.salt.now in
-    let nodes = c.args.leaves.nodes.now in
-    let j = c.args.j in
-    c.draw_row.ensures
-    ∙ same_row (share F p salt c.args.leaves.of.number j (leaf_in p nodes j)) (held F p salt c.args.leaves.of.number nodes c.args.offsets.now j) p.m
-    (λ k q. sym (cond-false (eqb j 0) _ _ (ne_eqb j 0 c.if-j-eq0.false)))
