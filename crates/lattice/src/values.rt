@@ -37,6 +37,7 @@ pub fn residue(set: Set, value: i8) -> u16
 }
 
 /// A value as a byte, in two's complement.
+// this and the next are one call of the library each: they are there for the words of their contracts
 pub fn to_byte(value: i8) -> u8
     ensures { result ≡ byte_of value }
 {

@@ -24,6 +24,7 @@ pub fn store(words: &mut [u16], k: usize, seed: &[u8])
     ensures { Stored k seed.now words.old words.new }
 {
     let row = &mut words[16 * k..16 * k + 16];
+    // two bytes to a word, by place: of the words no iterator that goes with the bytes says what they end as
     for (i, word) in row.iter_mut().enumerate() {
         *word = u16::from_le_bytes([seed[2 * i], seed[2 * i + 1]]);
     }
