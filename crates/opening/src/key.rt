@@ -4,6 +4,8 @@ ghost use Rattle.std.specs.List.{flat_map};
 ghost use Rattle.protocol.specs.Book.{wrote};
 ghost use Rattle.protocol.specs.Bytes.{le16};
 ghost use Rattle.protocol.specs.Of.{parameters};
+ghost use Rattle.protocol.specs.Parameters.{sigma};
+ghost use Rattle.shares.specs.Sizes.{bench_words};
 ghost use Rattle.sharing.specs.Sizes.{scratch_words};
 ghost use Rattle.opening.specs.Keys.{secret_words, public_words, key_text};
 
@@ -13,53 +15,34 @@ use shares::kept::Kept;
 use shares::product::share_product;
 use sharing::memory::{Scratch, cut_scratch};
 
-/// Writes S: the first half of the kept values.
-fn put_secret(kept: Kept<'_>, values: &[u16], scratch: &mut [u16], out: &mut [u8], at: usize)
+/// Writes S: the first half of the kept values; `gathered` is worked in.
+fn put_secret(kept: Kept<'_>, values: &[u16], gathered: &mut [u16], out: &mut [u8], at: usize)
     requires values { length values.now ≡ (parameters kept.header).m }
-    requires scratch { scratch_words (parameters kept.header) ≤ length scratch.old }
+    requires gathered { length gathered.old ≡ sigma (parameters kept.header) }
     requires room { at + 2 * ((parameters kept.header).n * (parameters kept.header).c) ≤ length out.old }
     ensures { out.new ≡ wrote at (flat_map le16 (secret_words (parameters kept.entry.header) kept.entry.flags.now values.now)) out.old }
 {
-    let Kept { header, flags } = kept;
-    let Scratch {
-        shares,
-        offsets: _,
-        sums: _,
-        key: _,
-        product: _,
-        bench: _,
-        nodes: _,
-    } = cut_scratch(header, scratch);
-    let gathered = &mut shares[0..header.kept()];
-    gather_kept(values, flags, gathered);
-    put_words(out, at, &gathered[0..header.entries()]);
+    gather_kept(values, kept.flags, gathered);
+    put_words(out, at, &gathered[0..kept.header.entries()]);
 }
 
-/// Writes B.
+/// Writes B; `key` and `bench` are worked in.
 pub(crate) fn put_public(
     kept: Kept<'_>,
     seed_a: &[u8; 16],
     values: &[u16],
-    scratch: &mut [u16],
+    key: &mut [u16],
+    bench: &mut [u16],
     out: &mut [u8],
     at: usize,
 )
     requires values { length values.now ≡ (parameters kept.header).m }
-    requires scratch { scratch_words (parameters kept.header) ≤ length scratch.old }
+    requires key { length key.old ≡ (parameters kept.header).n * (parameters kept.header).c }
+    requires bench { length bench.old ≡ bench_words (parameters kept.header) }
     requires room { at + 2 * ((parameters kept.header).n * (parameters kept.header).c) ≤ length out.old }
     ensures { out.new ≡ wrote at (flat_map le16 (public_words (parameters kept.entry.header) seed_a.now kept.entry.flags.now values.now)) out.old }
 {
-    let Kept { header, flags } = kept;
-    let Scratch {
-        shares: _,
-        offsets: _,
-        sums: _,
-        key,
-        product: _,
-        bench,
-        nodes: _,
-    } = cut_scratch(header, scratch);
-    share_product(header, seed_a, flags, values, bench, key);
+    share_product(kept.header, seed_a, kept.flags, values, bench, key);
     put_words(out, at, key);
 }
 
@@ -76,7 +59,14 @@ pub fn write_key(
     requires room { 4 * ((parameters kept.header).n * (parameters kept.header).c) ≤ length out.old }
     ensures { let p = parameters kept.entry.header in out.new ≡ key_text p seed_a.now kept.entry.flags.now values.now ++ drop (4 * (p.n * p.c)) out.old }
 {
-    let half = 2 * kept.header.entries();
-    put_secret(kept, values, scratch, out, 0);
-    put_public(kept, seed_a, values, scratch, out, half);
+    let header = kept.header;
+    let half = 2 * header.entries();
+    let Scratch {
+        shares,
+        key,
+        bench,
+        ..
+    } = cut_scratch(header, scratch);
+    put_secret(kept, values, &mut shares[0..header.kept()], out, 0);
+    put_public(kept, seed_a, values, key, bench, out, half);
 }

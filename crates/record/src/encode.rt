@@ -6,6 +6,7 @@ ghost use Rattle.protocol.specs.Of.{parameters};
 use protocol::header::Header;
 
 /// The fifteen bytes of a header, from which it is read again.
+// a function and no From: neither `Header` nor the array is of this crate
 pub fn encode_header(x: Header) -> [u8; 15]
     ensures bytes { result ≡ header_bytes (parameters x) }
     ensures again { reads_header result ≡ Ok (parameters x) }

@@ -15,6 +15,7 @@ use protocol::set::Set;
 pub const HEADER_BYTES: usize = 15;
 
 /// The two-byte number at an offset.
+// by its bytes: an offset is what it is given, and the definition `word` has it so
 fn word(bytes: &[u8], at: usize) -> u16
     requires { at + 1 < length bytes.now }
     ensures { result ≡ word bytes.now at }
@@ -87,6 +88,7 @@ fn test_header(bytes: &[u8]) -> Result<Header, Fault>
 }
 
 /// A bare header: mark, version, limits. Its encoding is again these bytes.
+// a function and no TryFrom, as with the encoder
 pub fn check_header(bytes: &[u8; 15]) -> Result<Header, Fault>
     ensures says { read_as result ≡ checks_header bytes.now }
     ensures back { IfOk result (λ x. header_bytes (parameters x) ≡ take 15 bytes.now) }

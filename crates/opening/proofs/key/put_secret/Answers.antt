@@ -1,6 +1,5 @@
 use Rattle.std.proofs.Common.{ap, ◌∙◌, arith}
 use Rattle.std.specs.List.{flat_map}
-use Rattle.std.proofs.lemmas.List.{length-take}
 use Rattle.protocol.specs.Book.{wrote}
 use Rattle.protocol.specs.Bytes.{le16}
 use Rattle.protocol.specs.Of.{parameters}
@@ -11,4 +10,4 @@ pub returns : goal.returns
 returns c =
     c.put_words.ensures
     ∙ ap (λ ws. wrote c.args.at (flat_map le16 ws) c.args.out.now)
-    (secret_first (parameters c.args.kept.header) c.args.kept.flags.now c.args.values.now c.gather_kept.new.out c.entries.result _ c.gather_kept.ensures c.entries.ensures (simp length-take (omega arith)))
+    (secret_first (parameters c.args.kept.header) c.args.kept.flags.now c.args.values.now c.gather_kept.new.out c.entries.result _ c.gather_kept.ensures c.entries.ensures (omega arith))
