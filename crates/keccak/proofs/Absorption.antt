@@ -1,5 +1,5 @@
 -- How the state that a sponge ends in is kept as it takes a text by blocks.
-use Rattle.std.proofs.Common.{◌≡◌, ℕ, zero, suc, ◌+◌, ◌-◌, ◌*◌, ◌/◌, ◌^◌, ◌<◌, lit<, add-zero, ◌≤◌, List, [], ◌∷◌, ◌++◌, length, get_or, take, drop, set, replicate, sym, ap, ◌∙◌, ap₂, append_assoc, add-one, arith, length-append, length-set}
+use Rattle.std.proofs.Common.{◌≡◌, ℕ, suc, ◌+◌, ◌-◌, ◌*◌, ◌/◌, ◌^◌, ◌<◌, lit<, add-zero, ◌≤◌, List, [], ◌∷◌, ◌++◌, length, get_or, take, drop, set, replicate, sym, ap, ◌∙◌, ap₂, append_assoc, add-one, arith, length-append, length-set}
 use native.Mathlib.Nat.{add-div_left, div-eq_of_lt, div-mul-le_self, mul-le-mul_right}
 use lib.Bits.{bit_xor}
 use lib.Seq.{paste}
@@ -8,7 +8,7 @@ use Rattle.std.proofs.lemmas.List.Edits.{take-paste}
 use Rattle.std.proofs.lemmas.Simd.{length-chunk, chunk-drop}
 use Rattle.std.specs.Int.{w64, from_le_bytes}
 use Rattle.std.specs.Simd.{first_chunks}
-use Rattle.std.proofs.lemmas.List.{get_or-take, get_or-drop, drop-drop, take_at, drop_at, take_all, take_more_set, drop_all, append-nil, length-take-le, length-drop}
+use Rattle.std.proofs.lemmas.List.{get_or-take, get_or-drop, take_at, drop_at, take_all, take_more_set, drop_all, append-nil, length-take-le, length-drop}
 use Rattle.digest.proofs.Chunks.{chunk_at}
 use Rattle.keccak.specs.Sponge.{lane_of, absorbed, absorbs, suffixed, padded, sponge}
 

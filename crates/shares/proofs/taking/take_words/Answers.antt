@@ -1,9 +1,3 @@
-use Rattle.std.proofs.Common.{subst}
-use Rattle.std.specs.List.{flat_map}
-use Rattle.std.proofs.lemmas.List.{take_all}
-use Rattle.protocol.specs.Bytes.{le16}
-use Rattle.digest.specs.Making.{Took}
-use Rattle.digest.proofs.Taking.{took_none}
 use Rattle.shares.proofs.Rows.{word_taken}
 use Rattle.shares.proofs.taking.take_words.Goals as goal
 

@@ -1,4 +1,4 @@
-use Rattle.std.proofs.Common.{◌≡◌, ℕ, ◌*◌, ◌<◌, List, map, length, sym, refl, ap, ◌∙◌, subst, arith}
+use Rattle.std.proofs.Common.{◌≡◌, ℕ, ◌<◌, List, map, sym, refl, ◌∙◌, subst, arith}
 use Rattle.std.specs.List.{range_with_len}
 use Rattle.protocol.specs.Of.{parameters}
 use Rattle.protocol.specs.Parameters.{parties}
@@ -12,7 +12,6 @@ use Rattle.sharing.specs.Rows.{leaf_in, summed, others_held}
 use Rattle.sharing.proofs.Adding.{added_row}
 use Rattle.sharing.proofs.Holding.{residues_lawful}
 use Rattle.sharing.proofs.Offsetting.{others_with, others_without}
-use Rattle.sharing.proofs.Reading.{key_long}
 use Rattle.sharing.proofs.checker.rebuild.Goals as goal
 
 regrown_from : (F : Digest) (salt : List ℕ) (e h : ℕ) (nodes seeds seeds' : List ℕ) (party party' : ℕ) → seeds ≡ seeds' → party ≡ party' →

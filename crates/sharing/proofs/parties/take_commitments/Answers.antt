@@ -1,9 +1,7 @@
-use Rattle.std.proofs.Common.{◌*◌, ◌≤◌, length, ap, ◌∙◌, subst, arith}
+use Rattle.std.proofs.Common.{◌*◌, ◌≤◌, length, ap, arith}
 use Rattle.protocol.specs.Of.{parameters}
 use Rattle.protocol.specs.Parameters.{parties}
-use Rattle.digest.specs.Making.{Took}
-use Rattle.digest.proofs.Taking.{took_next, took_ok, ready_after}
-use Rattle.sharing.specs.Known.{commitment_of}
+use Rattle.digest.proofs.Taking.{took_ok, ready_after}
 use Rattle.sharing.proofs.Lengths.{commitments_most, length-short}
 use Rattle.sharing.proofs.parties.take_commitments.Goals as goal
 

@@ -1,9 +1,8 @@
 use Rattle.std.proofs.Common.{◌*◌, ◌≤◌, arith, rules}
 use Rattle.protocol.specs.Of.{parameters}
 use Rattle.protocol.specs.Parameters.{parties}
-use Rattle.digest.proofs.Taking.{took_next, ready_after}
+use Rattle.digest.proofs.Taking.{ready_after}
 use Rattle.shares.specs.Shown.{most_shown}
-use Rattle.sharing.specs.Known.{party_text}
 use Rattle.sharing.proofs.Lengths.{few_parties, shares_most}
 use Rattle.sharing.proofs.parties.take_parties.Goals as goal
 

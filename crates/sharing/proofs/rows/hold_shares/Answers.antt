@@ -1,10 +1,9 @@
-use Rattle.std.proofs.Common.{eqb, sym, refl, ◌∙◌}
-use Rattle.std.proofs.lemmas.Bool.{cond-true, cond-false, eq-eqb, ne_eqb}
+use Rattle.std.proofs.Common.{eqb, sym, refl}
+use Rattle.std.proofs.lemmas.Bool.{cond-true, eq-eqb}
 use Rattle.protocol.specs.Of.{parameters}
 use Rattle.digest.specs.Short.{short_bytes}
 use Rattle.lattice.specs.Lines.{at}
 use Rattle.shares.specs.Drawing.{share}
-use Rattle.shares.proofs.Products.{same_row}
 use Rattle.sharing.specs.Rows.{leaf_in, held}
 use Rattle.sharing.proofs.Adding.{added_row}
 use Rattle.sharing.proofs.rows.hold_shares.Goals as goal
