@@ -44,6 +44,7 @@ fn to_the_edge<F: FnMut(&mut [u8]) -> Result<(), Fault>>(
 }
 
 /// Takes of six, five, no and one byte at the edge.
+// each of these prints another line, and `show` and `show_numbers` come to them with one maker and with two: no function for both is shorter
 fn show_takes<D: DigestMaker>(rt: &HostRuntime, name: &str, maker: &mut D) -> anyhow::Result<()> {
     let past = Answer(maker.take(&[9; 6]));
     let edge = Answer(maker.take(&[9; 5]));
