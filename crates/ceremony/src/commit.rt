@@ -47,6 +47,7 @@ pub(crate) fn test_lent(header: Header, attributes: &[u8], words: &[u16]) -> Res
 }
 
 /// Makes the values of salt and master, and d1; both makers are left begun.
+// lengths by the header stay clauses: attributes and memory are lent, and were tested against it
 pub(crate) fn digest_first<D: DigestMaker>(
     short: &mut D,
     long: &mut D,

@@ -38,6 +38,7 @@ pub fn matrix_row(set: Set, i: u16, seed: &[u8; 16], row: &mut [u16])
     requires { length row.old ≤ 1344 }
     ensures { row.new ≡ map (matrix shake128 (modulus (number set)) seed.now i) (range_with_len 0 (length row.old)) }
 {
+    // by way of the bytes of the longest row: there is no heap
     let mut bytes = [0; 2688];
     let used = 2 * row.len();
     fill_row(set, i, seed, &mut bytes[..used], row);

@@ -8,6 +8,7 @@ use crate::repetition::Repetition;
 use crate::words::load;
 
 /// The words of a repetition's tree.
+// lent words: the tree is a part of one working memory, and there is no heap
 #[derive(Clone, Copy)]
 pub struct Leaves<'a> {
     pub of: Repetition<'a>,

@@ -42,6 +42,7 @@ pub struct Asked<'a, D: DigestMaker> {
     ghost chosen: { ones flags.now ≡ sigma (parameters holder.header) },
 }
 
+// by hand, as of a holder
 impl<'a, D: DigestMaker> Clone for Asked<'a, D> {
     ghost is_clone = { λ s t. t ≡ s };
 

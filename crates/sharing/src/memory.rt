@@ -8,6 +8,7 @@ ghost use Rattle.sharing.specs.Sizes.{scratch_words};
 use protocol::header::Header;
 
 /// The parts of the working memory: what lasts for a whole text, and the rest.
+// cut from one memory that is lent: there is no heap
 #[derive(Drop)]
 pub struct Work<'a> {
     /// The values modulo q: a holder's own, or the audited ones of a record.

@@ -24,6 +24,7 @@ pub fn begin_text6<D: DigestMaker>(
 }
 
 /// Takes the flags, a byte each.
+// that flags are 0 or 1 stays a clause: only what digests them asks it, and a type would ask it of all who take flags
 fn take_flags<D: DigestMaker>(maker: &mut D, flags: &[u16])
     requires plain { (k : ℕ) → slice_index flags.now k < 2 }
     requires ready { Ready (length flags.now) (D.DigestMaker.means maker.old) }
