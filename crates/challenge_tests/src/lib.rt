@@ -54,6 +54,7 @@ mod tests {
     fn before_any_question(rt: HostRuntime) {
         let mut challenger: Derived<Shake256> = Derived::new();
         let mut out = [9; 3];
+        // by its number, as the table of refusals has it
         let refusal = challenger.next(&mut out).err();
         assert_eq!(rt; refusal.map(|fault| fault.number()), Some(15));
         assert!(rt; out == [9; 3]);

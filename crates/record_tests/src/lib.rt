@@ -57,7 +57,7 @@ mod tests {
         }
     }
 
-    // the number and place of a refusal, if the answer is one
+    // the number and place of a refusal, if the answer is one: numbers, as the table of refusals in docs/REFUSALS.md has them
     fn said(answer: Result<Header, Fault>) -> Option<(u8, usize)> {
         answer.err().map(|fault| (fault.number(), fault.place()))
     }
