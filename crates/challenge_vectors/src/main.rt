@@ -3,7 +3,7 @@
 //! the count of kept values.
 #![tactic(auto)]
 
-ghost use Rattle.std.specs.Prelude.{◌≤◌, length};
+ghost use Rattle.std.specs.Prelude.{◌<◌, ◌≤◌, length};
 
 use anyhow::{Context, anyhow};
 use challenge::by_maker::{Derived, Drawn};
@@ -12,14 +12,34 @@ use challenge::flags::{count_kept, pack};
 use challenge::selection::{choose_hidden, select_kept};
 use digest::maker::DigestMaker;
 use digest::short::ShortBytes;
-use hexadecimal::reading::decode;
 use hexadecimal::writing::Hex;
 use keccak::shake256::Shake256;
 use protocol::fault::Fault;
 use protocol::header::Header;
 use record::header::read_header;
 use sha512::stretched::Stretched;
-use std::alloc::Global;
+use std::alloc::{AllocError, Global};
+
+/// The value of a lower-case digit, and 0 for any other byte.
+fn digit(b: u8) -> u8
+    ensures { result < 16 }
+{
+    match b {
+        b'0'..=b'9' => b - b'0',
+        b'a'..=b'f' => b - b'a' + 10,
+        _ => 0,
+    }
+}
+
+/// The bytes that a text of lower-case digits writes. A character that is no such digit counts as 0, and an odd one at the end as none.
+// no `decode` of the crate hexadecimal, which refuses such a text and reads capitals
+fn unhex(heap: Global, text: &str) -> Result<Vec<u8>, AllocError> {
+    let (pairs, _) = text.as_bytes().as_chunks::<2>();
+    pairs
+        .iter()
+        .map(|&[high, low]| 16 * digit(high) + digit(low))
+        .collect(heap)
+}
 
 /// The salt and both digests of a record.
 #[derive(Clone, Copy)]
@@ -83,12 +103,12 @@ fn show<C: Challenger>(
 
 /// A salt or a digest, from hexadecimal text.
 fn short(heap: Global, text: &str) -> anyhow::Result<ShortBytes> {
-    ShortBytes::new(decode(heap, text)?.as_slice()).context("too long")
+    ShortBytes::new(unhex(heap, text)?.as_slice()).context("too long")
 }
 
-/// A station value, from hexadecimal text.
-fn station(heap: Global, text: &str) -> anyhow::Result<[u8; 32]> {
-    <[u8; 32]>::try_from(decode(heap, text)?.as_slice()).map_err(|_| anyhow!("not 32 bytes"))
+/// A station value, from hexadecimal text; zeros where that writes another number of bytes than 32.
+fn station(heap: Global, text: &str) -> Result<[u8; 32], AllocError> {
+    Ok(<[u8; 32]>::try_from(unhex(heap, text)?.as_slice()).unwrap_or([0; 32]))
 }
 
 /// One line, by makers of one kind.
@@ -102,7 +122,7 @@ fn answer<D: DigestMaker + Drop>(rt: &HostRuntime, fields: &[&str]) -> anyhow::R
         d1: short(heap, d1)?,
         d2: short(heap, d2)?,
     };
-    let header = read_header(decode(heap, header)?.as_slice()).map_err(|_| anyhow!("no header"))?;
+    let header = read_header(unhex(heap, header)?.as_slice()).map_err(|_| anyhow!("no header"))?;
     if *challenger == "derived" {
         let mut derived: Derived<D> = Derived::new();
         return show(rt, &mut derived, header, &asked);
