@@ -1,10 +1,11 @@
 -- Inner products modulo q, and lines of A·S + E.
-use Rattle.std.proofs.Common.{◌≡◌, ℕ, zero, suc, ◌+◌, ◌-◌, ◌*◌, ◌/◌, ◌%◌, ◌<◌, List, take, drop, sym, refl, ap, ◌∙◌, subst, inl, inr, add-mul, one-mul, arith}
-use native.Mathlib.Nat.{mul-zero, mod-lt, mod-mod, mod-add-mod, add-mod-mod}
+use Rattle.std.proofs.Common.{◌≡◌, ℕ, zero, suc, ◌+◌, ◌-◌, ◌*◌, ◌/◌, ◌%◌, ◌<◌, ◌≤◌, List, ◌++◌, length, take, drop, sym, refl, ap, ◌∙◌, subst, inl, inr, add-mul, one-mul, arith}
+use borrow.Rule.Slice.PartMut.{put_mid}
+use native.Mathlib.Nat.{mod-mod, mod-add-mod, add-mod-mod}
 use lib.Bits.{bit_and}
-use Rattle.std.proofs.lemmas.List.{get_or-take, get_or-drop}
+use Rattle.std.proofs.lemmas.List.{length-take-le, get_or-take, get_or-drop, get_or-append-add, get_or_append_left}
 use Rattle.std.proofs.lemmas.Bool.{cases_lt}
-use Rattle.std.proofs.lemmas.Nat.{mul-add-lt, div_below, div-mul-add, mod-mul-add}
+use Rattle.std.proofs.lemmas.Nat.{mul-add-lt, div-mul-add, mod-mul-add}
 use Rattle.protocol.specs.Parameters.{modulus}
 use Rattle.protocol.specs.Residues.{dot, product}
 use Rattle.protocol.specs.declared.set.Set.{Set}
@@ -13,11 +14,11 @@ use Rattle.lattice.specs.Lines.{at, row_entry}
 use Rattle.protocol.specs.Sets.{number}
 use Rattle.lattice.proofs.Sizes.{masked}
 
-same_sum : (q a b c d : ℕ) → a % q ≡ c % q → b % q ≡ d % q → (a + b) % q ≡ (c + d) % q
+pub same_sum : (q a b c d : ℕ) → a % q ≡ c % q → b % q ≡ d % q → (a + b) % q ≡ (c + d) % q
 same_sum q a b c d e h =
     sym (mod-add-mod a q b) ∙ ap (λ z. (z + b) % q) e ∙ mod-add-mod c q b ∙ sym (add-mod-mod c b q) ∙ ap (λ z. (c + z) % q) h ∙ add-mod-mod c d q
 
-dot_same : (n : ℕ) (a b s u : ℕ → ℕ) → ((t : ℕ) → t < n → a t ≡ b t) → ((t : ℕ) → t < n → s t ≡ u t) → dot n a s ≡ dot n b u
+pub dot_same : (n : ℕ) (a b s u : ℕ → ℕ) → ((t : ℕ) → t < n → a t ≡ b t) → ((t : ℕ) → t < n → s t ≡ u t) → dot n a s ≡ dot n b u
 dot_same zero a b s u d e = refl
 dot_same (suc n) a b s u d e = λ i. dot_same n a b s u (λ t q. d t (omega arith)) (λ t q. e t (omega arith)) i + d n (omega arith) i * e n (omega arith) i
 
@@ -51,10 +52,25 @@ masked_sum s x = masked s (x % 65536) ∙ divides s x
     divides Two x = mod-mod x 65536
     divides Three x = mod-mod x 65536
 
--- where entry k of the columns stands in S
-pub turned_from : (c n k : ℕ) → k < c * n → k % n * c + k / n < n * c
-turned_from c zero k h = absurd (omega (arith, mul-zero c))
-turned_from c (suc n) k h = omega (arith, mul-add-lt (k % suc n) c (k / suc n) (suc n) (mod-lt k (omega arith)) (div_below k (suc n) c (omega arith) h))
+-- a column written behind those before it, and read
+pub column_more : (n l : ℕ) (old new column : List ℕ) (f : ℕ → ℕ → ℕ) → new ≡ put_mid (l * n) (l * n + n - l * n) old column → l * n ≤ length old →
+    length column ≡ n → ((t k : ℕ) → t < n → k < l → at old (k * n + t) ≡ f t k) → ((t : ℕ) → t < n → at column t ≡ f t l) →
+    (t k : ℕ) → t < n → k < l + 1 → at new (k * n + t) ≡ f t k
+column_more n l old new column f is room long was fresh t k h g =
+    let b = l * n in
+    let rest = drop (b + n - b) (drop b old) in
+    let front : length (take b old) ≡ b = length-take-le b old room in
+    elim (cases_lt k l) [
+      | inl p ↦
+          let inside : k * n + t < b = omega (arith, mul-add-lt k n t l p h) in
+          ap (λ xs. at xs (k * n + t)) is ∙ get_or_append_left (take b old) (column ++ rest) 0 (k * n + t) (omega (arith, inside, front))
+          ∙ get_or-take b old (k * n + t) 0 inside ∙ was t k h p
+      | inr p ↦
+          let e : l ≡ k = omega arith in
+          subst (λ i. at new (i * n + t) ≡ f t i) e
+          (ap (λ xs. at xs (b + t)) is ∙ ap (λ m. at (take b old ++ (column ++ rest)) (m + t)) (sym front)
+          ∙ get_or-append-add (take b old) (column ++ rest) t 0 ∙ get_or_append_left column rest 0 t (omega (arith, long)) ∙ fresh t h)
+    ]
 
 part_at : (columns : List ℕ) (l n t : ℕ) → t < n → at (take ((l * n + n) - l * n) (drop (l * n) columns)) t ≡ at columns (l * n + t)
 part_at columns l n t h = get_or-take ((l * n + n) - l * n) (drop (l * n) columns) t 0 (omega arith) ∙ get_or-drop (l * n) columns t 0

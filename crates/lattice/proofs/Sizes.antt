@@ -20,7 +20,7 @@ exceeded_counts (x ∷ xs) t =
     step true n m e = let h : suc n ≡ 1 + m = omega arith in h
     step false n m e = let h : n ≡ 0 + m = omega arith in h
 
-table_short : (s : Set) → length (table (number s)) ≤ 13
+pub table_short : (s : Set) → length (table (number s)) ≤ 13
 table_short One = omega arith
 table_short Two = omega arith
 table_short Three = omega arith

@@ -33,14 +33,26 @@ fn inner_in_pieces(a: &[u16], b: &[u16]) -> u16
     sum.wrapping_add(inner(rest, last))
 }
 
+/// Column l of S.
+fn take_column(c: usize, l: usize, s: &[u16], column: &mut [u16])
+    requires inside { l < c }
+    requires whole { length s.now ≡ length column.old * c }
+    ensures { (t : ℕ) → t < length column.old → at column.new t ≡ at s.now (t * c + l) }
+{
+    for (t, entry) in column.iter_mut().enumerate() {
+        *entry = s[t * c + l];
+    }
+}
+
 /// S by columns.
 pub fn turn(n: usize, c: usize, s: &[u16], columns: &mut [u16])
     requires whole { length s.now ≡ n * c }
     requires room { length columns.old ≡ c * n }
     ensures { Turned n c s.now columns.new }
 {
-    for (k, entry) in columns.iter_mut().enumerate() {
-        *entry = s[k % n * c + k / n];
+    // A column at a time: one loop over all entries would divide for each. No `chunks_exact_mut`: n may be 0.
+    for l in 0..c {
+        take_column(c, l, s, &mut columns[l * n..l * n + n]);
     }
 }
 

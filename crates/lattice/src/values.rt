@@ -15,7 +15,8 @@ fn exceeded(table: &[u16], t: u16) -> u8
     requires { length table.now ≤ 100 }
     ensures { result ≡ exceeded table.now t }
 {
-    table.iter().filter(|entry| **entry < t).count() as u8
+    // no `filter` and `count`: they branch at each entry
+    table.iter().map(|entry| u8::from(*entry < t)).sum()
 }
 
 /// The value that a word stands for: bit 0 is the sign, and the size is how many entries of the set's table the other fifteen bits exceed.

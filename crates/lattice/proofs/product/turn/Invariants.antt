@@ -1,6 +1,6 @@
-use Rattle.std.proofs.Common.{◌≡◌, ℕ, ◌+◌, ◌*◌, ◌/◌, ◌%◌, ◌<◌}
+use Rattle.std.proofs.Common.{◌≡◌, ℕ, ◌+◌, ◌*◌, ◌<◌}
 use Rattle.lattice.specs.Lines.{at}
 use Rattle.lattice.proofs.product.turn.Given as goal
 
-abbrev pub invariant-loop-k : goal.invariant-loop-k
-invariant-loop-k l = (i : ℕ) → i < l.k → at l.columns i ≡ at l.s (i % l.n * l.c + i / l.n)
+abbrev pub invariant-loop-l : goal.invariant-loop-l
+invariant-loop-l l = (t k : ℕ) → t < l.n → k < l.l → at l.columns (k * l.n + t) ≡ at l.s (t * l.c + k)
