@@ -1,23 +1,19 @@
 -- The parts of the entry at the front of some bytes.
-use Rattle.std.proofs.Common.{◌≡◌, ℕ, ◌+◌, ◌<◌, List, ◌≤◌, ◌++◌, length, take, drop, Some, Option, MatchOption, Bor, Ok, Err, Result, IsOk, refl, sym, ap, ◌∙◌, append_assoc, length-append, arith}
+use Rattle.std.proofs.Common.{◌≡◌, ℕ, ◌+◌, ◌<◌, List, ◌≤◌, ◌++◌, length, take, drop, Some, Option, MatchOption, Bor, sym, ap, ◌∙◌, append_assoc, length-append, arith}
 use Rattle.std.specs.Int.{from_le_bytes, w32}
 use Rattle.std.proofs.lemmas.List.{take_at, drop_at}
 use Rattle.std.proofs.lemmas.Option.{MatchOption-at_some}
 use Rattle.std.proofs.lemmas.Nat.{from_le_bytes-to_le_bytes_4}
-use Rattle.protocol.specs.declared.fault.Fault.{Fault}
-use Rattle.protocol.specs.declared.header.Header.{Header}
 use Rattle.protocol.specs.Book.{entry_at, entry_from, size_at}
 use Rattle.protocol.specs.Entry.{Entry}
 use Rattle.protocol.specs.Flags.{packed}
-use Rattle.protocol.specs.Header.{parameters_of, reads_header, header_tests}
-use Rattle.protocol.specs.Of.{parameters, read_as}
+use Rattle.protocol.specs.Header.{parameters_of}
 use Rattle.protocol.specs.Parameters.{Parameters, flag_length}
 use Rattle.guarantee.proofs.Books.{held_of_packed, length-packed}
 use Rattle.guarantee.proofs.Keeping.{WellFormed}
-use Rattle.guarantee.proofs.Passing.{passed}
 use Rattle.book.specs.declared.stored.Stored.{Stored}
 use Rattle.book.specs.Entries.{Shows, Begins}
-use Rattle.book.proofs.Forms.{formed, heads, told}
+use Rattle.book.proofs.Forms.{formed, told}
 
 -- two lists end to end, cut between them
 parted : (whole xs ys front back : List ℕ) (n : ℕ) → whole ≡ xs ++ ys → n ≡ length xs → front ≡ take n whole → back ≡ drop n whole →
@@ -61,16 +57,8 @@ module _ (bytes : List ℕ) (b : Begins bytes) where
       number ∙ ap (from_le_bytes w32) (h.0 ∙ ap (take 4) b.whole) ∙ from_le_bytes-to_le_bytes_4 (length a.bytes) (told a b.well).brief in
       parted head.1.now a.bytes (a.hidden ++ (flagged ++ more)) front back n (h.1 ∙ body) long
 
-  accepted : (r : List ℕ) (answer : Result Header Fault) → read_as answer ≡ reads_header r → r ≡ a.bytes → read_as answer ≡ Ok p
-  accepted r answer says is = says ∙ ap reads_header is ∙ passed (header_tests a.bytes) p (heads a b.well)
-
-  pub header_read : (r : List ℕ) (answer : Result Header Fault) → read_as answer ≡ reads_header r → r ≡ a.bytes → IsOk answer
-  header_read r (Ok x) says is = refl
-  header_read r (Err f) says is = let e = accepted r (Err f) says is in absurd cc
-
-  pub header_is : (r : List ℕ) (answer : Result Header Fault) (x : Header) → read_as answer ≡ reads_header r → r ≡ a.bytes → answer ≡ Ok x →
-      parameters x ≡ p
-  header_is r answer x says is ok = let e = sym (ap read_as ok) ∙ accepted r answer says is in cc
+  pub header_there : (r : List ℕ) → r ≡ a.bytes → 15 ≤ length r
+  header_there r is = let long = form.facts.long in omega (arith, ap length is)
 
   pub hidden_there : (rest : List ℕ) (n : ℕ) → rest ≡ a.hidden ++ (flagged ++ more) → n ≡ p.tau → n ≤ length rest
   hidden_there rest n is tau = within rest a.hidden (flagged ++ more) n is (tau ∙ sym form.hidden_long)
