@@ -28,7 +28,7 @@ word_lane n b i x h is =
     + byte 4 h (lit< tt) z * 2 ^ 32 + byte 5 h (lit< tt) z * 2 ^ 40 + byte 6 h (lit< tt) z * 2 ^ 48 + byte 7 h (lit< tt) z * 2 ^ 56)
 
 -- a whole block first
-whole : (r : ℕ) (s b x : List ℕ) → 0 < r → length b ≡ r → sponge r s (b ++ x) ≡ sponge r (absorbed r s b) x
+pub whole : (r : ℕ) (s b x : List ℕ) → 0 < r → length b ≡ r → sponge r s (b ++ x) ≡ sponge r (absorbed r s b) x
 unfolding sponge absorbs
 whole r s b x some h =
     let e : length (b ++ x) / r ≡ suc (length x / r) =
@@ -50,7 +50,7 @@ block_absorbed r s t bytes x b i some h is taken =
     ∙ ap (sponge r s) (sym (append_assoc b rest x) ∙ ap (λ z. z ++ x) (ap (λ z. z ++ rest) here ∙ sym (chunk-drop (i * r) r bytes)))
 
 -- the bytes that wait, after more were put behind them
-waiting : (block bytes : List ℕ) (at : ℕ) → at ≤ length block → take (at + length bytes) (paste block at bytes (length bytes)) ≡ take at block ++ bytes
+pub waiting : (block bytes : List ℕ) (at : ℕ) → at ≤ length block → take (at + length bytes) (paste block at bytes (length bytes)) ≡ take at block ++ bytes
 waiting block bytes at le =
     take-paste block at bytes (length bytes) le (omega arith) ∙ ap (λ z. take at block ++ z) (take_all (length bytes) bytes (omega arith))
 

@@ -1,9 +1,10 @@
 -- How the words of a hasher change as bytes come in.
-use Rattle.std.proofs.Common.{◌≡◌, ℕ, suc, ◌+◌, ◌/◌, ◌%◌, ◌^◌, ◌<◌, List, [], ◌∷◌, ◌++◌, length, take, get_or, sym, refl, ap, ap₂, ◌∙◌, append_assoc, arith, length-append, length-take}
+use Rattle.std.proofs.Common.{◌≡◌, ℕ, suc, ◌+◌, ◌-◌, ◌/◌, ◌%◌, ◌^◌, ◌<◌, ◌≤◌, List, [], ◌∷◌, ◌++◌, length, take, drop, get_or, sym, refl, ap, ap₂, ◌∙◌, append_assoc, arith, length-append, length-take}
 use borrow.Rule.Slice.PartMut.{put_mid}
 use Rattle.std.specs.List.{concat}
 use Rattle.std.proofs.lemmas.List.Concat.{concat_is}
-use Rattle.std.proofs.lemmas.List.{take_at, drop_at, take_more, drop-drop, drop_all, append-nil, flat_map_more}
+use Rattle.std.proofs.lemmas.Simd.{length-chunk, chunk-drop}
+use Rattle.std.proofs.lemmas.List.{take_at, drop_at, take_rest, take_more, take-append-drop, drop-drop, drop_all, append-nil, flat_map_more}
 use Rattle.std.proofs.lemmas.Slice.{take-put_mid}
 use Rattle.sha512.specs.Sha512.{compressed}
 use Rattle.sha512.specs.declared.hasher.Hasher.{Hasher}
@@ -74,3 +75,34 @@ pub concat_more : (xss : List (List ℕ)) (i : ℕ) (d : List ℕ) → i < lengt
 concat_more xss i d below =
     ap concat (take_more xss i d below) ∙ concat_is (take i xss ++ get_or xss i d ∷ [])
     ∙ sym (flat_map_more (λ x. x) [] (take i xss) (get_or xss i d)) ∙ ap (λ z. z ++ get_or xss i d) (sym (concat_is (take i xss)))
+
+-- ---- blocks and parts of a slice, by their offsets
+
+-- one block more
+pub block_taken : (h bytes y : List ℕ) (i : ℕ) → i + 128 ≤ length bytes
+    → absorbed (compressed h (take 128 (drop i bytes))) (drop (i + 128) bytes ++ y) ≡ absorbed h (drop i bytes ++ y)
+block_taken h bytes y i le =
+    sym (absorbed_block h (take 128 (drop i bytes)) (drop (i + 128) bytes ++ y) (length-chunk i 128 bytes le))
+    ∙ ap (absorbed h) (sym (append_assoc (take 128 (drop i bytes)) (drop (i + 128) bytes) y) ∙ ap (λ z. z ++ y) (sym (chunk-drop i 128 bytes)))
+
+-- a slice in three parts
+module _ (bytes : List ℕ) (a b : ℕ) (le : a ≤ b) where
+  pub three_parts : (y : List ℕ)
+      → take (a - 0) bytes ++ (take (b - a) (drop a bytes) ++ (take (length bytes - b) (drop b bytes) ++ y)) ≡ bytes ++ y
+  three_parts y =
+      let first : a - 0 ≡ a = omega arith in
+      let second : a + (b - a) ≡ b = omega arith in
+      ap₂ (λ n z. take n bytes ++ (take (b - a) (drop a bytes) ++ (z ++ y))) first
+      (take_rest bytes b ∙ ap (λ n. drop n bytes) (sym second) ∙ sym (drop-drop (b - a) a bytes))
+      ∙ ap (λ z. take a bytes ++ z) (sym (append_assoc (take (b - a) (drop a bytes)) (drop (b - a) (drop a bytes)) y) ∙ ap (λ z. z ++ y) (take-append-drop (b - a) (drop a bytes)))
+      ∙ sym (append_assoc (take a bytes) (drop a bytes) y) ∙ ap (λ z. z ++ y) (take-append-drop a bytes)
+
+  -- their lengths, counted modulo 2 ^ 64
+  pub three_lengths : (t t1 t2 t3 : ℕ) → b ≤ length bytes → t1 ≡ (t + length (take (a - 0) bytes)) % 2 ^ 64
+      → t2 ≡ (t1 + length (take (b - a) (drop a bytes))) % 2 ^ 64 → t3 ≡ (t2 + length (take (length bytes - b) (drop b bytes))) % 2 ^ 64
+      → t3 ≡ (t + length bytes) % 2 ^ 64
+  three_lengths t t1 t2 t3 end e1 e2 e3 =
+      let l1 : length (take (a - 0) bytes) ≡ a = simp length-take (omega arith) in
+      let l2 : length (take (b - a) (drop a bytes)) ≡ b - a = length-chunk a (b - a) bytes (omega arith) in
+      let l3 : length (take (length bytes - b) (drop b bytes)) ≡ length bytes - b = length-chunk b (length bytes - b) bytes (omega arith) in
+      omega arith

@@ -22,16 +22,20 @@ pub after_none : (s : Hasher) → s.total % 128 ≡ 0 → after s [] ≡ s.words
 unfolding after
 after_none s e = ap (λ n. absorbed s.words (take n s.block ++ [])) e ∙ absorbed_none s.words
 
+-- nothing more follows
+pub ended_none : (s : Hasher) → after s (padding s.total) ≡ ended s []
+unfolding ended
+ended_none s = ap (λ n. after s (padding n)) (sym (add-zero s.total))
+
 length-padding : (n : ℕ) → length (padding n) ≡ suc (zeros n + 16)
 unfolding padding
 length-padding n = simp (length-append, length-replicate)
 
 -- the padding ends the text
 pub ended_padded : (s s' : Hasher) → HasTaken (padding s.total) s s' → s'.words ≡ ended s []
-unfolding ended
 ended_padded s s' taken =
     let full : s'.total % 128 ≡ 0 = omega (arith, taken.total, length-padding s.total) in
-    sym (after_none s' full) ∙ taken.words [] ∙ ap (after s) (append-nil (padding s.total) ∙ ap padding (sym (add-zero s.total)))
+    sym (after_none s' full) ∙ taken.words [] ∙ ap (after s) (append-nil (padding s.total)) ∙ ended_none s
 
 -- a hasher that has taken more
 pub ended_more : (s s' : Hasher) (bytes x : List ℕ) → HasTaken bytes s s' → s.total + length bytes < 2 ^ 64 → ended s' x ≡ ended s (bytes ++ x)

@@ -1,5 +1,8 @@
 -- The stream of a hasher, as bytes come in and are drawn.
-use Rattle.std.proofs.Common.{◌≡◌, ℕ, ◌+◌, ◌/◌, ◌%◌, ◌^◌, ◌<◌, List, [], ◌++◌, length, slice_index, sym, refl, ap, ap₂, ◌∙◌, append_assoc, arith}
+use Rattle.std.specs.Prelude.{slice_range}
+use Rattle.std.proofs.Common.{◌≡◌, ℕ, ◌+◌, ◌-◌, ◌/◌, ◌%◌, ◌^◌, ◌<◌, ◌≤◌, List, [], ◌++◌, length, drop, slice_index, inl, inr, sym, refl, ap, ap₂, ◌∙◌, append_assoc, arith}
+use Rattle.std.proofs.lemmas.List.{get_or-take, get_or-drop}
+use Rattle.std.proofs.lemmas.Bool.{cases_lt}
 use Rattle.protocol.specs.Streams.{first_bytes}
 use Rattle.digest.specs.Making.{Making, Holding, Took, Drew}
 use Rattle.sha512.specs.declared.hasher.Hasher.{Hasher}
@@ -65,3 +68,27 @@ state_drew s s' d d' out same count bytes = record {
 pub byte_drawn : (s : Hasher) (block : List ℕ) (d i n : ℕ) → block ≡ stream_block s [] (n / 64) → n ≡ d + i → slice_index block (n % 64) ≡ stream_from s d [] i
 unfolding stream_from
 byte_drawn s block d i n is at = ap₂ (λ b m. slice_index b m) (is ∙ ap (λ (m : ℕ). stream_block s [] (m / 64)) at) (ap (λ (m : ℕ). m % 64) at)
+
+-- a part of the current block, from u on, is the next n bytes of the stream
+pub part_fresh : (s : Hasher) (block : List ℕ) (d u n k : ℕ) → block ≡ stream_block s [] (d / 64) → u ≡ d % 64 → u + n ≤ 64 → k < n
+    → slice_index (slice_range block u (u + n)) k ≡ stream_from s d [] k
+unfolding stream_from
+part_fresh s block d u n k is at fits below =
+    let q : d / 64 ≡ (d + k) / 64 = omega arith in
+    let r : u + k ≡ (d + k) % 64 = omega arith in
+    get_or-take ((u + n) - u) (drop u block) k 0 (omega arith) ∙ get_or-drop u block k 0
+    ∙ ap₂ (λ b m. slice_index b m) (is ∙ ap (stream_block s []) q) r
+
+-- a buffer that holds the stream up to `at`, after a draw that came to r
+pub filled_more : (s : Hasher) (d at r : ℕ) (old new : List ℕ) → at ≤ r
+    → ((k : ℕ) → k < at → slice_index old k ≡ stream_from s d [] k)
+    → ((k : ℕ) → k < at → slice_index new k ≡ slice_index old k)
+    → ((k : ℕ) → k < r - at → slice_index new (at + k) ≡ stream_from s (d + at) [] k)
+    → (k : ℕ) → k < r → slice_index new k ≡ stream_from s d [] k
+filled_more s d at r old new le held before fresh k below =
+    elim (cases_lt k at) [
+      | inl lt ↦ before k lt ∙ held k lt
+      | inr ge ↦
+          let e : at + (k - at) ≡ k = omega arith in
+          ap (λ n. slice_index new n) (sym e) ∙ fresh (k - at) (omega arith) ∙ stream_rest s d at [] (k - at) ∙ ap (stream_from s d []) e
+    ]

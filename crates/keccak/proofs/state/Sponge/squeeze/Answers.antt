@@ -2,7 +2,7 @@ use Rattle.std.proofs.Common.{◌≡◌, ℕ, ◌+◌, ◌-◌, ◌<◌, length,
 use Rattle.std.proofs.lemmas.List.{length-take, length-drop}
 use Rattle.keccak.specs.Sponge.{stream}
 use Rattle.keccak.specs.Meaning.{giving}
-use Rattle.keccak.proofs.Squeezed.{stream_here, more_given, part_byte}
+use Rattle.keccak.proofs.Squeezed.{stream_here, more_pasted, part_byte}
 use Rattle.keccak.proofs.state.Sponge.squeeze.Goals as goal
 
 pub loop-done-preserved : goal.loop-done-preserved
@@ -21,7 +21,7 @@ loop-done-preserved g c =
     part_byte u.block u.used n k (omega arith) ∙ c.unload.ensures.bytes (u.used + k) (omega arith) ∙ stream_here r t.lanes (u.used + k) (omega arith)
     ∙ ap (λ m. stream r t.lanes (m + k)) used ∙ ahead k in (
       omega arith,
-      (λ k h. more_given (giving r s) c.loop-done.out c.put.new.out part done (omega arith) c.put.ensures c.loop-done.invariant.1 byte k (omega arith)),
+      (λ k h. more_pasted (giving r s) c.loop-done.out c.put.new.out part done (omega arith) c.put.ensures c.loop-done.invariant.1 byte k (omega arith)),
       (λ i.
           let a : u.used + n + i ≡ t.used + (n + i) = omega arith in
           let b : done + (n + i) ≡ done + n + i = omega arith in
