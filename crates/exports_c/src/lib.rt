@@ -1,5 +1,5 @@
 //! The digests, and a row of the product, as C functions, for benchmarks and tests from other languages: those of the crate `exports`,
-//! under their names as symbols of a static library. C has no Result: what is refused is a `bool` here.
+//! under the symbols of a static library. C has no Result: what is refused is a `bool` here.
 #![tactic(auto)]
 
 ghost use Rattle.std.specs.Prelude.{◌≡◌, ℕ, ◌<◌, length, is_ok, MatchBool};
