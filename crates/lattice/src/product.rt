@@ -13,19 +13,27 @@ fn inner(a: &[u16], b: &[u16]) -> u16
     ensures { result ≡ dot (length a.now) (at a.now) (at b.now) % 65536 }
 {
     let mut sum = 0u16;
-    for (x, y) in a.iter().zip(b) {
-        sum = sum.wrapping_add(x.wrapping_mul(*y));
+    // b by place: a zip asks at each turn whether either slice has ended
+    for (t, x) in a.iter().enumerate() {
+        sum = sum.wrapping_add(x.wrapping_mul(b[t]));
     }
     sum
 }
 
-/// The same in pieces: a loop of 128 turns has no remainder to test, which makes the product a fifth faster.
+/// How many terms a piece of a long row has.
+const PIECE: usize = 128;
+
+/// The same in pieces: a loop of 128 turns has no remainder to test, which makes the product a fifth faster. A row that has no whole
+/// piece is one loop.
 fn inner_in_pieces(a: &[u16], b: &[u16]) -> u16
     requires { length b.now ≡ length a.now }
     ensures { result ≡ dot (length a.now) (at a.now) (at b.now) % 65536 }
 {
-    let (pieces, rest) = a.as_chunks::<128>();
-    let (others, last) = b.as_chunks::<128>();
+    if a.len() < PIECE {
+        return inner(a, b);
+    }
+    let (pieces, rest) = a.as_chunks::<PIECE>();
+    let (others, last) = b.as_chunks::<PIECE>();
     let mut sum = 0u16;
     for (x, y) in pieces.iter().zip(others) {
         sum = sum.wrapping_add(inner(x, y));

@@ -29,8 +29,8 @@ returns c =
     let end = zip_end c.as_chunks.result.0.now c.as_chunks-2.result.0.now c.loop-x.yielded c.into_iter-x-iterator.result c.loop-x.x-iterator c.next.new.self c.next.result (cc) (cc) c.loop-x.yielded_by
     c.in-None.is c.next.ensures.steps in
     let all : k ≡ length a / 128 = omega (arith, end, c.as_chunks.ensures.front_len, c.as_chunks-2.ensures.front_len, c.requires) in
-    dot_joined (k * 128) (length c.as_chunks.result.1.now) (at a) (at b) (at c.as_chunks.result.1.now) (at c.as_chunks-2.result.1.now) c.loop-x.sum c.inner.result c.loop-x.invariant
-    c.inner.ensures
+    dot_joined (k * 128) (length c.as_chunks.result.1.now) (at a) (at b) (at c.as_chunks.result.1.now) (at c.as_chunks-2.result.1.now) c.loop-x.sum c.inner-2.result c.loop-x.invariant
+    c.inner-2.ensures
     (λ j h. ap (λ xs. at xs j) c.as_chunks.ensures.back ∙ get_or-drop (length a / 128 * 128) a j 0 ∙ ap (λ n. at a (n * 128 + j)) (omega arith))
     (λ j h. ap (λ xs. at xs j) c.as_chunks-2.ensures.back ∙ get_or-drop (length b / 128 * 128) b j 0 ∙ ap (λ n. at b (n * 128 + j)) (omega (arith, all, c.requires)))
     ∙ ap (λ n. dot n (at a) (at b) % 65536) (omega (arith, all, c.as_chunks.ensures.back_len))
