@@ -1,10 +1,11 @@
 -- The parts of the entry at the front of some bytes.
-use Rattle.std.proofs.Common.{◌≡◌, ℕ, ◌+◌, ◌<◌, List, ◌≤◌, ◌++◌, length, take, drop, Some, Option, MatchOption, Bor, sym, ap, ◌∙◌, append_assoc, length-append, arith}
+use Rattle.std.proofs.Common.{◌≡◌, ℕ, ◌+◌, ◌*◌, ◌/◌, ◌<◌, ◌^◌, List, [], ◌∷◌, ◌≤◌, ◌++◌, length, get_or, take, drop, Some, Option, MatchOption, Bor, lit<, sym, ap, ◌∙◌, append_assoc, length-append, arith}
 use Rattle.std.specs.Int.{from_le_bytes, w32}
-use Rattle.std.proofs.lemmas.List.{take_at, drop_at}
+use Rattle.std.proofs.lemmas.List.{take_at, drop_at, drop-drop, get_or_append_left}
 use Rattle.std.proofs.lemmas.Option.{MatchOption-at_some}
 use Rattle.std.proofs.lemmas.Nat.{from_le_bytes-to_le_bytes_4}
-use Rattle.protocol.specs.Book.{entry_at, entry_from, size_at}
+use Rattle.protocol.specs.Book.{entry_at, entry_bytes, entry_from, read_bytes, size_at}
+use Rattle.protocol.specs.Bytes.{le32}
 use Rattle.protocol.specs.Entry.{Entry}
 use Rattle.protocol.specs.Flags.{packed}
 use Rattle.protocol.specs.Header.{parameters_of}
@@ -56,6 +57,62 @@ module _ (bytes : List ℕ) (b : Begins bytes) where
       let long : n ≡ length a.bytes =
       number ∙ ap (from_le_bytes w32) (h.0 ∙ ap (take 4) b.whole) ∙ from_le_bytes-to_le_bytes_4 (length a.bytes) (told a b.well).brief in
       parted head.1.now a.bytes (a.hidden ++ (flagged ++ more)) front back n (h.1 ∙ body) long
+
+  -- byte i of the record, which is long enough for a header
+  header_byte : (i : ℕ) → i < 15 → get_or (drop 4 bytes) i 0 ≡ get_or a.bytes i 0
+  header_byte i h =
+      let long = form.facts.long in
+      ap (λ z. get_or z i 0) body ∙ get_or_append_left a.bytes (a.hidden ++ (flagged ++ more)) 0 i (omega arith)
+
+  behind_length : bytes ≡ le32 (length a.bytes) ++ (read_bytes a ++ more)
+  behind_length = b.whole ∙ append_assoc (le32 (length a.bytes)) (read_bytes a) more
+
+  pub room : 19 ≤ length bytes
+  room =
+      let long = form.facts.long in
+      let e = ap length b.whole in
+      let one = length-append (entry_bytes a) more in
+      let two = length-append a.bytes (a.hidden ++ flagged) in
+      omega arith
+
+  pub body_room : (k : ℕ) → k ≡ length (read_bytes a) → 4 + k ≤ length bytes
+  body_room k is =
+      let e = ap length b.whole in
+      let one = length-append (entry_bytes a) more in
+      omega arith
+
+  pub body_is : (k : ℕ) → k ≡ length (read_bytes a) → take k (drop 4 bytes) ≡ read_bytes a
+  body_is k is = ap (λ z. take k (drop 4 z)) behind_length ∙ take_at (read_bytes a) more k (sym is)
+
+  pub behind : (k : ℕ) → k ≡ length (read_bytes a) → drop (4 + k) bytes ≡ more
+  behind k is = sym (drop-drop k 4 bytes) ∙ ap (λ z. drop k (drop 4 z)) behind_length ∙ drop_at (read_bytes a) more k (sym is)
+
+  pub body_size : (n t f : ℕ) → n ≡ from_le_bytes w32 (get_or bytes 0 0 ∷ get_or bytes 1 0 ∷ get_or bytes 2 0 ∷ get_or bytes 3 0 ∷ []) →
+      t ≡ (parameters_of (drop 4 bytes)).tau → f ≡ flag_length (parameters_of (drop 4 bytes)) → n + (t + f) ≡ length (read_bytes a)
+  body_size n t f first repetitions flags =
+      let byte : (i : ℕ) → get_or bytes i 0 ≡ get_or (le32 (length a.bytes) ++ (read_bytes a ++ more)) i 0 = λ i. ap (λ z. get_or z i 0) behind_length in
+      let long : n ≡ length a.bytes =
+      first ∙ (λ i. from_le_bytes w32 (byte 0 i ∷ byte 1 i ∷ byte 2 i ∷ byte 3 i ∷ []))
+      ∙ from_le_bytes-to_le_bytes_4 (length a.bytes) (told a b.well).brief in
+      let parties : t ≡ length a.hidden = repetitions ∙ header_byte 12 (lit< tt) ∙ sym form.hidden_long in
+      let low = header_byte 9 (lit< tt) in
+      let high = header_byte 10 (lit< tt) in
+      let many : f ≡ flag_length p = flags ∙ (λ i. (low i + 256 * high i + 7) / 8) in
+      let two = length-append a.bytes (a.hidden ++ flagged) in
+      let three = length-append a.hidden flagged in
+      let four = length-packed a.flags (flag_length p) in
+      omega arith
+
+  pub body_small : length (read_bytes a) < 2 ^ 33
+  body_small =
+      let brief = (told a b.well).brief in
+      let hidden = form.hidden_long in
+      let few = form.facts.tau_high in
+      let values = form.facts.m_high in
+      let two = length-append a.bytes (a.hidden ++ flagged) in
+      let three = length-append a.hidden flagged in
+      let four = length-packed a.flags (flag_length p) in
+      omega arith
 
   pub header_there : (r : List ℕ) → r ≡ a.bytes → 15 ≤ length r
   header_there r is = let long = form.facts.long in omega (arith, ap length is)

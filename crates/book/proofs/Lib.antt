@@ -2,5 +2,4 @@ pub mod Adding
 pub mod Cutting
 pub mod Forms
 pub mod Laying
-pub mod Outputs
 pub mod Walking

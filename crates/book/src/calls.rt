@@ -1,15 +1,15 @@
 //! What can be done with a book.
-ghost use Rattle.std.specs.Prelude.{◌≡◌, ◌+◌, ◌-◌, ◌≤◌, length, MatchOption, slice_index_or};
-ghost use Rattle.protocol.specs.Book.{empty, appended, entries_of, no_entry, read_bytes, reads};
+ghost use Rattle.std.specs.Prelude.{◌≡◌, ◌+◌, ◌-◌, ◌<◌, ◌≤◌, length, MatchOption, slice_index_or};
+ghost use Rattle.protocol.specs.Book.{empty, appended, entries_of, entry_at, no_entry, read_bytes, reads};
 ghost use Rattle.protocol.specs.Effects.{written};
 ghost use Rattle.protocol.specs.Guarantee.{Guarantee};
 ghost use Rattle.protocol.specs.Layout.{entry_length};
 ghost use Rattle.protocol.specs.Of.{parameters};
-ghost use Rattle.book.specs.Entries.{Found};
+ghost use Rattle.book.specs.Entries.{Begins, Found};
 ghost use Rattle.book.specs.Of.{state_of, entry_of, SameMemory};
 
 use crate::book::Book;
-use crate::cut::cut;
+use crate::cut::{LENGTH_BYTES, body_length, cut};
 use crate::entry::NewEntry;
 use crate::lay::lay;
 use crate::stored::Stored;
@@ -43,17 +43,33 @@ impl<'a> Book<'a> {
         self.memory.len() - self.used
     }
 
+    /// Entry k where it lies, and all behind it: from the front on, each entry tells by its sizes where the next one begins.
+    fn reach(&self, k: usize) -> &[u8]
+        requires { k < self.now.count }
+        ensures begins { Begins result.now }
+        ensures is { entry_at result.now ≡ slice_index_or (entries_of (state_of self.now)) k no_entry }
+    {
+        let mut rest: &[u8] = self.memory;
+        for _ in 0..k {
+            rest = &rest[LENGTH_BYTES + body_length(rest)..];
+        }
+        rest
+    }
+
     /// Writes the bytes of entry k to the front of an output and answers how many: the record, the hidden parties, the flags as bits.
     pub fn read(&self, k: usize, out: &mut [u8]) -> Result<usize, Fault>
         ensures says { result ≡ reads (state_of self.now) k (length out.old) }
         ensures writes { out.new ≡ written result (read_bytes (slice_index_or (entries_of (state_of self.now)) k no_entry)) out.old }
     {
-        let entry = self.entry(k).ok_or(Fault::Missing { number: k })?;
-        let due = entry.length();
+        if k >= self.count {
+            return Err(Fault::Missing { number: k });
+        }
+        let entry = self.reach(k);
+        let due = body_length(entry);
         if out.len() < due {
             return Err(Fault::Output { due });
         }
-        entry.copy_to(&mut out[..due]);
+        out[..due].copy_from_slice(&entry[LENGTH_BYTES..LENGTH_BYTES + due]);
         Ok(due)
     }
 
@@ -79,12 +95,6 @@ impl<'a> Book<'a> {
         if k >= self.count {
             return None;
         }
-        // from the front on, each entry tells by its sizes where the next one begins
-        let mut rest: &[u8] = self.memory;
-        for _ in 0..k {
-            (_, rest) = cut(rest);
-        }
-        let (entry, _) = cut(rest);
-        Some(entry)
+        Some(cut(self.reach(k)))
     }
 }

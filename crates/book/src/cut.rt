@@ -1,6 +1,6 @@
 //! Entries, read off from the front of bytes.
-ghost use Rattle.std.specs.Prelude.{◌≡◌, ◌≤◌, drop, length};
-ghost use Rattle.protocol.specs.Book.{entry_at, size_at};
+ghost use Rattle.std.specs.Prelude.{◌≡◌, ◌≤◌, length};
+ghost use Rattle.protocol.specs.Book.{entry_at, read_bytes};
 ghost use Rattle.protocol.specs.Header.{parameters_of};
 ghost use Rattle.protocol.specs.Parameters.{flag_length};
 ghost use Rattle.book.specs.Entries.{Shows, Begins};
@@ -21,21 +21,29 @@ fn sizes(bytes: &[u8]) -> (usize, usize)
     (bytes[12] as usize, (values as usize + 7) / 8)
 }
 
-/// The entry that begins some bytes, and what lies behind it. Its record tells the sizes of the other parts.
-pub(crate) fn cut(bytes: &[u8]) -> (Stored<'_>, &[u8])
+/// How many bytes the entry that begins some bytes has behind its length field.
+pub(crate) fn body_length(bytes: &[u8]) -> usize
     requires { Begins bytes.now }
-    ensures entry { Shows (entry_at bytes.now) result.0 }
-    ensures rest { result.1.now ≡ drop (size_at bytes.now) bytes.now }
+    ensures { result ≡ length (read_bytes (entry_at bytes.now)) }
+{
+    let record = u32::from_le_bytes([bytes[0], bytes[1], bytes[2], bytes[3]]);
+    let (hidden, flags) = sizes(&bytes[LENGTH_BYTES..]);
+    record as usize + (hidden + flags)
+}
+
+/// The entry that begins some bytes. Its record tells the sizes of the other parts.
+pub(crate) fn cut(bytes: &[u8]) -> Stored<'_>
+    requires { Begins bytes.now }
+    ensures { Shows (entry_at bytes.now) result }
 {
     let (length, rest) = bytes.split_first_chunk::<LENGTH_BYTES>().unwrap();
     let (record, rest) = rest.split_at(u32::from_le_bytes(*length) as usize);
     let (hidden_bytes, flag_bytes) = sizes(record);
     let (hidden, rest) = rest.split_at(hidden_bytes);
-    let (flags, rest) = rest.split_at(flag_bytes);
-    let entry = Stored {
+    let (flags, _) = rest.split_at(flag_bytes);
+    Stored {
         record,
         hidden,
         flags,
-    };
-    (entry, rest)
+    }
 }

@@ -32,4 +32,4 @@ returns c =
     c.split_at-2.ensures.front c.split_at-2.ensures.back in
     let three = flags_read _ c.requires _ _ _ _ two.1 (c.sizes-hidden_bytes.ensures.flags ∙ ap (λ r. flag_length (parameters_of r)) one.0)
     c.split_at-3.ensures.front c.split_at-3.ensures.back in
-    record { entry = shown _ c.requires _ one.0 two.0 three.0; rest = three.1 }
+    shown _ c.requires _ one.0 two.0 three.0
